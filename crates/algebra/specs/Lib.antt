@@ -1,0 +1,4 @@
+pub mod Sums
+pub mod Squares
+pub mod Differences
+pub mod Claims
