@@ -1,8 +1,10 @@
 -- The meaning of a series: so many samples, the sample at each place, and a reach.
+use mathlib.Core.Path.{_≡_}
 use mathlib.Core.Bool.{cond}
 use Prim.Native.Nat.{ℕ, _^_, _≤_, _<_}
 use lib.Dec.{ltb}
 use lib.IntN.{ℤ, natAbs}
+use Rattle.algebra.specs.Differences.{Ramped, Drifted, Turned}
 use Rattle.std.specs.declared.result.Result.{Result}
 use Rattle.std.specs.declared.result.Result.the-variants.{Ok, Err}
 use Rattle.series.specs.declared.fault.Fault.{Fault}
@@ -37,3 +39,30 @@ one l s = record { short = l .short s; near = l .near s; within = l .within s }
 -- the sample at a place, from 0; a place that is not below the size is refused
 abbrev pub sampleOf : Seen → ℕ → Result ℤ Fault
 sampleOf s k = cond (ltb k (s .size)) (Ok (s .value k)) (Err (fault NoSuchPlace Series k))
+
+-- the samples, as a sequence
+abbrev pub samples : Seen → ℕ → ℤ
+samples s = s .value
+
+-- ---- how a series t follows from another one, s
+-- it cannot be told from it
+pub record Alike (s t : Seen) : Type 0 where
+  pub size : t .size ≡ s .size
+  pub bound : t .bound ≡ s .bound
+  pub value : (k : ℕ) → k < s .size → t .value k ≡ s .value k
+
+-- its samples are c·x + a + b·i, whatever its reach
+pub record RampOf (c a b : ℤ) (s t : Seen) : Type 0 where
+  pub size : t .size ≡ s .size
+  pub value : Ramped (s .size) c a b (samples s) (samples t)
+
+-- and with a drift, d·i(i - 1)/2 more
+pub record DriftOf (c a b d : ℤ) (s t : Seen) : Type 0 where
+  pub size : t .size ≡ s .size
+  pub value : Drifted (s .size) c a b d (samples s) (samples t)
+
+-- it is s read backwards
+pub record ReversedOf (s t : Seen) : Type 0 where
+  pub size : t .size ≡ s .size
+  pub bound : t .bound ≡ s .bound
+  pub value : Turned (s .size) (samples s) (samples t)

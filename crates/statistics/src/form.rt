@@ -1,0 +1,51 @@
+// What a statistic is.
+ghost use mathlib.Core.Path.{_≡_};
+ghost use Rattle.series.specs.Seen.{Seen};
+ghost use Rattle.statistics.specs.Model.{Model, partsOf, admitted, divisorOf, termsOf, totalOf};
+use crate::blindness::Blindness;
+use series::fault::Cause;
+use series::fault::Fault;
+use series::fault::Layer;
+use series::form::Series;
+
+/// A statistic: a model, which is a formula with its laws, and the calls that answer from it.
+pub trait Statistic {
+    const BLINDNESS: Blindness;
+
+    ghost model: { Model };
+
+    /// The constant.
+    fn blind_to() -> Blindness
+        ensures { λ r. ⌜ r ≡ model .formula .blindness ⌝ };
+
+    /// The number of parts, of a length and a factor.
+    fn parts(length: usize, factor: u64) -> Result<u64, Fault>
+        ensures { λ r. ⌜ r ≡ partsOf (model .formula) length factor ⌝ };
+
+    /// The divisor of a part.
+    fn divisor(length: usize, factor: u64, part: u64) -> Result<u64, Fault>
+        ensures { λ r. ⌜ r ≡ divisorOf (model .formula) length factor part ⌝ };
+
+    /// The number of terms of a part.
+    fn terms(length: usize, factor: u64, part: u64) -> Result<u64, Fault>
+        ensures { λ r. ⌜ r ≡ termsOf (model .formula) length factor part ⌝ };
+
+    /// The total of a part over a series.
+    fn total<S: Series>(s: &S, factor: u64, part: u64) -> Result<u64, Fault>
+        ensures { λ r. ⌜ r ≡ totalOf (model .formula) (seen (now (s .entry))) factor part ⌝ };
+}
+
+/// The number of parts, where the part is one of them.
+pub fn admit(parts: Result<u64, Fault>, part: u64) -> Result<u64, Fault>
+    ensures { λ r. ⌜ r ≡ admitted parts part ⌝ }
+{
+    let count = parts?;
+    if part == 0 || part > count {
+        return Err(Fault {
+            cause: Cause::NoSuchPart,
+            layer: Layer::Statistic,
+            place: part,
+        });
+    }
+    Ok(count)
+}

@@ -1,0 +1,2 @@
+// The read-out of a factor.
+ghost use mathlib.Core.Path.{_≡_};
