@@ -1,2 +1,4 @@
 pub mod Totals
 pub mod Formulas
+pub mod Shares
+pub mod ReadOuts

@@ -11,7 +11,7 @@ use Rattle.std.specs.declared.option.Option.{Option}
 use Rattle.std.specs.declared.option.Option.the-variants.{Some, None}
 use Rattle.std.specs.declared.result.Result.{Result}
 use Rattle.std.specs.declared.result.Result.the-variants.{Ok, Err}
-use Rattle.std.proofs.shelf.Tests.{leb-true, leb-false, cases-order}
+use Rattle.std.proofs.shelf.Tests.{leb-true, leb-false, le-leb, lt-leb, cond-true, cond-false, cases-order}
 use Rattle.algebra.specs.Sums.{sumN}
 use Rattle.algebra.specs.Squares.{square}
 use Rattle.algebra.proofs.Sums.{sumN-cong, sumN-more, sumN-scale, sumN-split, sumN-turn}
@@ -37,6 +37,12 @@ fitting-none n = go (leb n word) refl
     go : (b : Bool) → leb n word ≡ b → cond b (Some n) None ≡ None → word < n
     go true h e = let z : _≡_ {A = ℕ} 0 1 = cc in absurd (omega arith)
     go false h e = leb-false n word h
+
+pub fits-word : (n : ℕ) → n ≤ word → Some n ≡ fitting n
+fits-word n h = sym (cond-true (leb n word) _ _ (le-leb n word h))
+
+pub past-word : (n : ℕ) → word < n → None ≡ fitting n
+past-word n h = sym (cond-false (leb n word) _ _ (lt-leb n word h))
 
 pub grown-some : (t u : ℕ) (r : ℤ) → grown t r ≡ Some u → (natAbs r ≤ outmost) × (u ≡ t + square r) × (u ≤ word)
 grown-some t u r = go (leb (natAbs r) outmost) refl
@@ -122,6 +128,7 @@ gated-cong f g k h = go 0 0 k (λ n _ l. h n (omega arith))
     same : (n t left : ℕ) → ((u : ℕ) → totalFrom g (n + 1) u left ≡ totalFrom f (n + 1) u left) → (o : Option ℕ) → stepped n (λ u. totalFrom g (n + 1) u left) o ≡ stepped n (λ u. totalFrom f (n + 1) u left) o
     same n t left r (Some u) = r u
     same n t left r None = refl
+
     go : (n t left : ℕ) → ((i : ℕ) → n ≤ i → i < n + left → g i ≡ f i) → totalFrom g n t left ≡ totalFrom f n t left
     go n t zero q = refl
     go n t (suc left) q = ap (λ (y : ℤ). stepped n (λ u. totalFrom g (n + 1) u left) (grown t y)) (q n (omega arith) (omega arith)) ∙ same n t left (λ u. go (n + 1) u left (λ i a b. q i (omega arith) (omega arith))) (grown t (f n))
@@ -132,6 +139,7 @@ gated-same f g k to back e = go (gated f k) (gated g k) (gated-is f k) (gated-is
   where
     clash : {P : Type 0} (h : ℕ → ℤ) (x : Fault) → Inside h k → squares k h ≤ word → Totalled h k (Err x) → P
     clash h x i l p = no-first h (p .0) k (p .1) i l (p .3)
+
     go : (r q : Result ℕ Fault) → Totalled f k r → Totalled g k q → SameTotal r q
     go (Ok t) (Ok u) a b = b .0 ∙ e ∙ sym (a .0)
     go (Ok t) (Err y) a b = clash g y (to (a .1)) (omega (arith, a .0, a .2)) b

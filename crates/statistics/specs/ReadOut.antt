@@ -13,10 +13,14 @@ use Rattle.statistics.specs.Model.{Formula, partsOf, totalOf}
 abbrev pub share : ℕ → ℕ → ℕ
 share t v = (4096 * t) / v
 
--- with the parts from j on, of which so many are left, and the sum so far
+-- the sum so far with the share of the part j
+abbrev pub readStep : Formula → Seen → ℕ → ℕ → ℕ → Result ℕ Fault
+readStep F s m j sum = andThen (totalOf F s m j) (λ t. stepped (F .terms (s .size) m j) (λ u. Ok u) (fitting (sum + share t (F .divisor (s .size) m j))))
+
+-- with the parts from j on, of which so many are left
 abbrev pub readFrom : Formula → Seen → ℕ → ℕ → ℕ → ℕ → Result ℕ Fault
 readFrom F s m j zero sum = Ok sum
-readFrom F s m j (suc left) sum = andThen (totalOf F s m j) (λ t. stepped (F .terms (s .size) m j) (λ u. readFrom F s m (j + 1) left u) (fitting (sum + share t (F .divisor (s .size) m j))))
+readFrom F s m j (suc left) sum = andThen (readStep F s m j sum) (λ u. readFrom F s m (j + 1) left u)
 
 abbrev pub readOut : Formula → Seen → ℕ → Result ℕ Fault
 readOut F s m = andThen (partsOf F (s .size) m) (λ k. readFrom F s m 1 k 0)

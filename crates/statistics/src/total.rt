@@ -19,5 +19,4 @@ pub fn grow(total: u64, root: i64) -> Option<u64>
 /// A total that is taken term by term is the sum of all squares, or is refused at the first term where a root or the sum is too large.
 pub fn total_laws()
     ensures { λ _. ⌜ TotalLaws ⌝ }
-{
-}
+{}
