@@ -33,10 +33,14 @@ pub record Formula : Type 0 where
   pub root : Seen → ℕ → ℕ → ℕ → ℤ
 
 -- ---- what follows from a formula
-abbrev pub partsOf : Formula → ℕ → ℕ → Result ℕ Fault
-partsOf F n m =
+-- the number of parts, or the first refusal that applies: too long a series, a factor not taken, too few samples
+abbrev pub accepted : ℕ → Bool → Bool → ℕ → Result ℕ Fault
+accepted n takes enough parts =
     cond (ltb fullest n) (Err (fault SeriesTooLong Statistic 0))
-    (cond (F .takes m) (cond (F .enough n m) (Ok (F .parts n m)) (Err (fault TooFewSamples Statistic 0))) (Err (fault FactorNotTaken Statistic 0)))
+    (cond takes (cond enough (Ok parts) (Err (fault TooFewSamples Statistic 0))) (Err (fault FactorNotTaken Statistic 0)))
+
+abbrev pub partsOf : Formula → ℕ → ℕ → Result ℕ Fault
+partsOf F n m = accepted n (F .takes m) (F .enough n m) (F .parts n m)
 
 -- the number of parts, where j is one of them
 abbrev pub admitted : Result ℕ Fault → ℕ → Result ℕ Fault

@@ -1,12 +1,13 @@
 // What a statistic is.
 ghost use mathlib.Core.Path.{_≡_};
 ghost use Rattle.series.specs.Seen.{Seen};
-ghost use Rattle.statistics.specs.Model.{Model, partsOf, admitted, divisorOf, termsOf, totalOf};
+ghost use Rattle.statistics.specs.Model.{Model, accepted, partsOf, admitted, divisorOf, termsOf, totalOf};
 use crate::blindness::Blindness;
 use series::fault::Cause;
 use series::fault::Fault;
 use series::fault::Layer;
 use series::form::Series;
+use series::store::FULLEST;
 
 /// A statistic: a model, which is a formula with its laws, and the calls that answer from it.
 pub trait Statistic {
@@ -33,6 +34,26 @@ pub trait Statistic {
     /// The total of a part over a series.
     fn total<S: Series>(s: &S, factor: u64, part: u64) -> Result<u64, Fault>
         ensures { λ r. ⌜ r ≡ totalOf (model .formula) (seen (now (s .entry))) factor part ⌝ };
+}
+
+/// The number of parts, or the first refusal that applies to a length and a factor.
+pub fn accept(length: usize, takes: bool, enough: bool, parts: u64) -> Result<u64, Fault>
+    ensures { λ r. ⌜ r ≡ accepted length takes enough parts ⌝ }
+{
+    let cause = if length > FULLEST {
+        Cause::SeriesTooLong
+    } else if !takes {
+        Cause::FactorNotTaken
+    } else if !enough {
+        Cause::TooFewSamples
+    } else {
+        return Ok(parts);
+    };
+    Err(Fault {
+        cause,
+        layer: Layer::Statistic,
+        place: 0,
+    })
 }
 
 /// The number of parts, where the part is one of them.

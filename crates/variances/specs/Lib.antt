@@ -1,0 +1,2 @@
+pub mod Avar
+pub mod Names

@@ -1,0 +1,3 @@
+//! The variances, each a statistic of any series.
+pub mod avar;
+pub mod name;
