@@ -1,3 +1,4 @@
+pub mod Causes
 pub mod Samples
 pub mod Small
 pub mod Unpacked

@@ -1,9 +1,10 @@
 // Why a call is refused, by which part, and at which place.
 ghost use mathlib.Core.Path.{_≡_};
+ghost use Rattle.std.specs.Orderings.{Decides};
 ghost use Rattle.series.specs.Faults.{causeNumber, layerNumber};
 
 /// Why a call is refused. The numbers are those that the job text and the controller show.
-#[derive(Clone, Copy, PartialEq, Eq, Debug)]
+#[derive(Clone, Copy, Debug)]
 pub enum Cause {
     OutOfRange = 1,
     Full = 2,
@@ -31,6 +32,16 @@ impl Cause {
         self as u8
     }
 }
+
+pub impl PartialEq<Cause> for Cause as CausePartialEq {
+    ghost equals = { λ a b r. Decides r (a ≡ b) };
+
+    fn eq(&self, other: &Cause) -> bool {
+        (*self).number() == (*other).number()
+    }
+}
+
+pub impl Eq for Cause as CauseEq {}
 
 /// The part that refuses.
 #[derive(Clone, Copy, PartialEq, Eq, Debug)]
