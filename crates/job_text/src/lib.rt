@@ -1,9 +1,14 @@
-//! One line of a job, and the lines of a text.
+//! The job: lines of text, worked one by one on a run.
 
+mod answer;
+mod job;
 mod lines;
 mod text;
 mod tokens;
 
+pub use answer::Answer;
+pub use answer::AnswerDisplay;
+pub use job::Job;
 pub use lines::Line;
 pub use lines::parse;
 pub use text::line_end;
