@@ -1,2 +1,3 @@
 pub mod Runs
 pub mod LineEnds
+pub mod Texts

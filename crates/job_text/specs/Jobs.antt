@@ -84,5 +84,8 @@ pub data WorkedAll : Stage → List (List ℕ) → List Answer → Stage → Typ
 abbrev pub most : ℕ
 most = 65536
 
+abbrev pub LinesWorked : List ℕ → List Answer → Type 0
+LinesWorked text answers = (t : Stage) × WorkedAll fresh (linesOf text) answers t
+
 abbrev pub TextWorked : List ℕ → List Answer → Type 0
-TextWorked text answers = elim (leb (length text) most) [ true ↦ (t : Stage) × WorkedAll fresh (linesOf text) answers t | false ↦ answers ≡ answer.Refused (fault MalformedLine Bench most) ∷ [] ]
+TextWorked text answers = elim (leb (length text) most) [ true ↦ LinesWorked text answers | false ↦ answers ≡ answer.Refused (fault MalformedLine Bench most) ∷ [] ]

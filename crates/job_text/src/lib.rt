@@ -5,6 +5,7 @@ mod job;
 mod lines;
 mod text;
 mod tokens;
+mod whole;
 
 pub use answer::Answer;
 pub use answer::AnswerDisplay;
@@ -13,6 +14,8 @@ pub use lines::Line;
 pub use lines::parse;
 pub use text::line_end;
 pub use tokens::Token;
+pub use whole::MOST;
+pub use whole::work_text;
 
 #[cfg(test)]
 mod tests {
