@@ -1,3 +1,4 @@
 pub mod Runs
 pub mod LineEnds
 pub mod Texts
+pub mod Prints

@@ -3,6 +3,7 @@
 mod answer;
 mod job;
 mod lines;
+mod report;
 mod text;
 mod tokens;
 mod whole;
@@ -12,6 +13,7 @@ pub use answer::AnswerDisplay;
 pub use job::Job;
 pub use lines::Line;
 pub use lines::parse;
+pub use report::print_out;
 pub use text::line_end;
 pub use tokens::Token;
 pub use whole::MOST;
