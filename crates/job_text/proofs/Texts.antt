@@ -23,10 +23,11 @@ upto-none text answers t p q = subst₂ (λ as′ u. Upto text 0 as′ u) (sym p
 
 pub upto-more : (text : List ℕ) (from end : ℕ) (answers after : List Answer) (a : Answer) (t u : Stage) → from < length text → end ≡ lineEnd text from → after ≡ answers ++ a ∷ [] → Upto text from answers t → Worked t (take (end - from) (drop from text)) a u → Upto text (end + 1) after u
 upto-more text from end answers after a t u l e p h w =
-    let line = take (end - from) (drop from text) in
-    (h .0 ++ line ∷ [],
-     append-assoc (h .0) (line ∷ []) (linesOf (drop (end + 1) text)) ∙ ap (λ ls. h .0 ++ ls) (sym (lines-more text from end l e)) ∙ h .1,
-     subst (λ as′. WorkedAll fresh (h .0 ++ line ∷ []) as′ u) (sym p) (all-more line a (h .2) w))
+    let line = take (end - from) (drop from text) in (
+      h .0 ++ line ∷ [],
+      append-assoc (h .0) (line ∷ []) (linesOf (drop (end + 1) text)) ∙ ap (λ ls. h .0 ++ ls) (sym (lines-more text from end l e)) ∙ h .1,
+      subst (λ as′. WorkedAll fresh (h .0 ++ line ∷ []) as′ u) (sym p) (all-more line a (h .2) w),
+    )
 
 pub upto-all : (text : List ℕ) (from : ℕ) (answers : List Answer) (t : Stage) → length text ≤ from → Upto text from answers t → LinesWorked text answers
 upto-all text from answers t l h = (t, subst (λ ls. WorkedAll fresh ls answers t) (sym (append-nil (h .0)) ∙ ap (λ ls. h .0 ++ ls) (sym (lines-none text from l)) ∙ h .1) (h .2))

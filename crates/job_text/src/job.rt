@@ -104,10 +104,10 @@ impl Job {
     {
         match self {
             Job::Open(run) => match which {
-                Variance::Allan => run.part::<Avar>(factor, number),
+                Variance::Avar => run.part::<Avar>(factor, number),
             },
             Job::Released(run) => match which {
-                Variance::Allan => run.part::<Avar>(factor, number),
+                Variance::Avar => run.part::<Avar>(factor, number),
             },
         }
     }
@@ -118,10 +118,10 @@ impl Job {
     {
         match self {
             Job::Open(run) => match which {
-                Variance::Allan => run.read_out::<Avar>(factor),
+                Variance::Avar => run.read_out::<Avar>(factor),
             },
             Job::Released(run) => match which {
-                Variance::Allan => run.read_out::<Avar>(factor),
+                Variance::Avar => run.read_out::<Avar>(factor),
             },
         }
     }

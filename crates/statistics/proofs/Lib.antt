@@ -1,4 +1,5 @@
 pub mod Totals
 pub mod Formulas
+pub mod Refusals
 pub mod Shares
 pub mod ReadOuts

@@ -1,6 +1,7 @@
 -- What a statistic is.
 use mathlib.Core.Path.{_≡_}
-use mathlib.Core.Bool.{Bool, true, cond, _&&_}
+use mathlib.Core.Logic.{_⊎_}
+use mathlib.Core.Bool.{Bool, true, false, cond, _&&_}
 use Prim.Native.Nat.{ℕ, _*_, _^_, _≤_, _<_}
 use lib.Dec.{leb, ltb}
 use lib.IntN.{ℤ}
@@ -8,7 +9,7 @@ use Rattle.std.specs.declared.result.Result.{Result}
 use Rattle.std.specs.declared.result.Result.the-variants.{Ok, Err}
 use Rattle.algebra.specs.Squares.{square}
 use Rattle.series.specs.declared.fault.Fault.{Fault}
-use Rattle.series.specs.declared.fault.Cause.the-variants.{SeriesTooLong, FactorNotTaken, TooFewSamples, NoSuchPart, ReachTooLarge}
+use Rattle.series.specs.declared.fault.Cause.the-variants.{SeriesTooLong, FactorNotTaken, TooFewSamples, NoSuchPart, TotalTooLarge, ReachTooLarge}
 use Rattle.series.specs.declared.fault.Layer.the-variants.{Series, Statistic}
 use Rattle.series.specs.Faults.{fault, andThen}
 use Rattle.series.specs.Limits.{fullest}
@@ -66,6 +67,31 @@ partOf F s m j = andThen (totalOf F s m j) (λ t. andThen (divisorOf F (s .size)
 -- j is a part of N samples at the factor m
 abbrev pub Accepted : Formula → ℕ → ℕ → ℕ → Type 0
 Accepted F n m j = (k : ℕ) × (admitted (partsOf F n m) j ≡ Ok k)
+
+-- ---- when a factor is refused, and a total
+-- the factor m at N samples: the first of three tests that fails gives the refusal
+pub record Suits (F : Formula) (n m : ℕ) : Type 0 where
+  pub short : n ≤ fullest
+  pub taken : F .takes m ≡ true
+  pub enough : F .enough n m ≡ true
+
+abbrev pub PartsAnswered : Formula → ℕ → ℕ → Result ℕ Fault → Type 0
+PartsAnswered F n m (Ok k) = Suits F n m × (k ≡ F .parts n m)
+PartsAnswered F n m (Err f) =
+    ((fullest < n) × (f ≡ fault SeriesTooLong Statistic 0))
+    ⊎ ((n ≤ fullest) × (F .takes m ≡ false) × (f ≡ fault FactorNotTaken Statistic 0))
+    ⊎ ((n ≤ fullest) × (F .takes m ≡ true) × (F .enough n m ≡ false) × (f ≡ fault TooFewSamples Statistic 0))
+
+-- an accepted part leaves two refusals of its total: a layer's reach, or a term where a root or the sum is too large
+abbrev pub SizeOnly : Formula → Seen → ℕ → ℕ → Fault → Type 0
+SizeOnly F s m j f =
+    ((F .reaches (s .size) (s .bound) m ≡ false) × (f ≡ fault ReachTooLarge Series 0))
+    ⊎ ((F .reaches (s .size) (s .bound) m ≡ true) × ((n : ℕ) × (n < F .terms (s .size) m j) × (f ≡ fault TotalTooLarge Statistic n)))
+
+pub record RefusalLaws : Type 0 where
+  pub parts : (F : Formula) (n m : ℕ) → PartsAnswered F n m (partsOf F n m)
+  pub no-part : (F : Formula) (n m j k : ℕ) → partsOf F n m ≡ Ok k → (j ≡ 0) ⊎ (k < j) → admitted (partsOf F n m) j ≡ Err (fault NoSuchPart Statistic j)
+  pub total : (F : Formula) (s : Seen) (m j : ℕ) (f : Fault) → Accepted F (s .size) m j → totalOf F s m j ≡ Err f → SizeOnly F s m j f
 
 -- equal totals, or refusals of the same cause
 abbrev pub SameTotal : Result ℕ Fault → Result ℕ Fault → Type 0

@@ -1,7 +1,7 @@
 // What a statistic is.
 ghost use mathlib.Core.Path.{_≡_};
 ghost use Rattle.series.specs.Seen.{Seen};
-ghost use Rattle.statistics.specs.Model.{Model, accepted, partsOf, admitted, divisorOf, termsOf, totalOf};
+ghost use Rattle.statistics.specs.Model.{Model, accepted, partsOf, admitted, divisorOf, termsOf, totalOf, RefusalLaws};
 use crate::blindness::Blindness;
 use series::fault::Cause;
 use series::fault::Fault;
@@ -70,3 +70,9 @@ pub fn admit(parts: Result<u64, Fault>, part: u64) -> Result<u64, Fault>
     }
     Ok(count)
 }
+
+/// When each refusal comes, for every formula: too long a series, a factor not taken, too few samples, no such part;
+/// and then a total is refused for a layer's reach, or at a term where a root or the sum is too large, and for nothing else.
+pub fn refusal_laws()
+    ensures { λ _. ⌜ RefusalLaws ⌝ }
+{}

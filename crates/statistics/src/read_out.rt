@@ -83,10 +83,7 @@ fn sum_of_shares<T: Statistic, S: Series>(s: &S, factor: u64, parts: u64) -> Res
 {
     let mut sum = 0;
     for before in 0..parts {
-        match add_share::<T, S>(s, factor, before + 1, sum) {
-            Ok(more) => sum = more,
-            Err(fault) => return Err(fault),
-        }
+        sum = add_share::<T, S>(s, factor, before + 1, sum)?;
     }
     Ok(sum)
 }

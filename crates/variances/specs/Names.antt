@@ -7,14 +7,14 @@ use Rattle.std.specs.declared.option.Option.{Option}
 use Rattle.std.specs.declared.option.Option.the-variants.{Some, None}
 use Rattle.statistics.specs.Model.{Model}
 use Rattle.variances.specs.declared.name.Variance.{Variance}
-use Rattle.variances.specs.declared.name.Variance.the-variants.{Allan}
+use Rattle.variances.specs.declared.name.Variance.the-variants.{Avar}
 use Rattle.variances.specs.Avar.{avar}
 
 abbrev pub nameOf : Variance → List ℕ
-nameOf Allan = codes "avar"
+nameOf Avar = codes "avar"
 
 abbrev pub modelOf : Variance → Model
-modelOf Allan = avar
+modelOf Avar = avar
 
 -- the statistic that a word names, or none
 abbrev pub Named : List ℕ → Option Variance → Type 0

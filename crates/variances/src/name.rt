@@ -6,8 +6,8 @@ ghost use Rattle.variances.specs.Names.{Named};
 /// A statistic, chosen at run time.
 #[derive(Clone, Copy, PartialEq, Eq, Debug)]
 pub enum Variance {
-    /// the overlapping Allan variance, avar
-    Allan,
+    /// the overlapping Allan variance
+    Avar,
 }
 
 fn same(a: &[u8], b: &[u8]) -> bool
@@ -21,7 +21,7 @@ pub fn named(word: &[u8]) -> Option<Variance>
     ensures { λ r. ⌜ Named (now (word .entry)) r ⌝ }
 {
     if same(word, b"avar") {
-        return Some(Variance::Allan);
+        return Some(Variance::Avar);
     }
     None
 }
