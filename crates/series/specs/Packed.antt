@@ -1,4 +1,5 @@
 -- Samples packed in bytes: four to a sample, least byte first, two's complement.
+use mathlib.Core.Path.{_≡_}
 use mathlib.Core.Bool.{Bool, true, false, cond}
 use mathlib.Core.List.{List, [], _∷_}
 use Prim.Native.Nat.{ℕ, _+_, _*_, _/_, _%_, _≤_, _<_, min}
@@ -35,6 +36,12 @@ abbrev pub firstBeyond : ℕ → List ℤ → Option ℕ
 firstBeyond k [] = None
 firstBeyond k (x ∷ xs) = cond (leb (natAbs x) largest) (firstBeyond (k + 1) xs) (Some k)
 
+-- it is out of range, and none before it is
+pub record FirstBeyond (xs : List ℤ) (p : ℕ) : Type 0 where
+  pub inside : p < length xs
+  pub passes : largest < natAbs (getD xs p (pos 0))
+  pub before : (i : ℕ) → i < p → natAbs (getD xs i (pos 0)) ≤ largest
+
 abbrev pub beyond : Option ℕ → Option Fault
 beyond None = None
 beyond (Some k) = Some (fault OutOfRange Series k)
@@ -42,6 +49,10 @@ beyond (Some k) = Some (fault OutOfRange Series k)
 -- why bytes are refused, if they are
 abbrev pub packedRefusal : List ℕ → Option Fault
 packedRefusal bs = cond (eqb (length bs % 4) 0) (cond (ltb (4 * fullest) (length bs)) (Some (fault Full Series 0)) (beyond (firstBeyond 0 (unpacked bs)))) (Some (fault MalformedBytes Series 0))
+
+-- what a refusal tells: the first sample out of range; and what its absence tells: every sample is in range
+abbrev pub RefusalTells : List ℕ → Option Fault → Type 0
+RefusalTells bs o = ((p : ℕ) → o ≡ Some (fault OutOfRange Series p) → FirstBeyond (unpacked bs) p) × (o ≡ None → (length bs % 4 ≡ 0) × (length (unpacked bs) ≤ fullest) × ((i : ℕ) → natAbs (getD (unpacked bs) i (pos 0)) ≤ largest))
 
 -- What a reader of bytes sees that it has not checked: at most as many samples as a run may hold, and 0 for one out of range.
 abbrev pub bounded : ℤ → ℤ

@@ -9,7 +9,7 @@ ghost use denote.Ref.{now};
 ghost use Rattle.std.specs.Results.{Cases, errPart};
 ghost use Rattle.series.specs.Seen.{Seen, all};
 ghost use Rattle.series.specs.Listed.{listed};
-ghost use Rattle.series.specs.Packed.{unpacked, firstBeyond, packedRefusal, bounded, viewed, viewed-lawful};
+ghost use Rattle.series.specs.Packed.{unpacked, firstBeyond, packedRefusal, RefusalTells, bounded, viewed, viewed-lawful};
 use crate::fault::Cause;
 use crate::fault::Fault;
 use crate::fault::Layer;
@@ -102,6 +102,7 @@ impl<'a> Packed<'a> {
     /// The samples of some bytes, or why they are refused.
     pub fn new(bytes: &'a [u8]) -> Result<Packed<'a>, Fault>
         ensures why { λ r. ⌜ errPart r ≡ packedRefusal (now (bytes .entry)) ⌝ }
+        ensures tells { λ r. ⌜ RefusalTells (now (bytes .entry)) (errPart r) ⌝ }
         ensures made { λ r. ⌜ Cases r (λ p. viewed (now (p .bytes)) ≡ listed (unpacked (now (bytes .entry)))) (λ _. Unit {0}) ⌝ }
     {
         match refusal(bytes) {
