@@ -60,8 +60,11 @@ grown-none t r = go (leb (natAbs r) outmost) refl
 
 -- ---- a loop over the roots: what is left gives the answer
 module _ (f : ℕ → ℤ) where
-  pub total-step : (k n t : ℕ) (o : Option ℕ) → n < k → grown t (f n) ≡ o → totalFrom f n t (k - n) ≡ stepped n (λ u. totalFrom f (n + 1) u (k - (n + 1))) o
-  total-step k n t o h e = let left : k - n ≡ suc (k - (n + 1)) = omega arith in ap (totalFrom f n t) left ∙ ap (stepped n (λ u. totalFrom f (n + 1) u (k - (n + 1)))) e
+  -- x is the root as the code has it, and o what the step answers
+  pub total-step : (k n t : ℕ) (x : ℤ) (o : Option ℕ) → n < k → x ≡ f n → o ≡ grown t x → stepped n (λ u. totalFrom f (n + 1) u (k - (n + 1))) o ≡ totalFrom f n t (k - n)
+  total-step k n t x o h e p =
+      let left : k - n ≡ suc (k - (n + 1)) = omega arith in
+      sym (ap (totalFrom f n t) left ∙ ap (stepped n (λ u. totalFrom f (n + 1) u (k - (n + 1)))) (sym (p ∙ ap (grown t) e)))
 
   pub total-all : (k n t : ℕ) → k ≤ n → totalFrom f n t (k - n) ≡ Ok t
   total-all k n t h = let none : k - n ≡ 0 = omega arith in ap (totalFrom f n t) none
