@@ -1,8 +1,8 @@
 // Works the stored jobs and packed samples, and prints what each answers.
-use job_text::Answer;
-use job_text::AnswerDisplay;
-use job_text::print_out;
-use job_text::work_text;
+use job_text::answer::Answer;
+use job_text::answer::AnswerDisplay;
+use job_text::report::print_out;
+use job_text::whole::work_text;
 use series::fault::Fault;
 use series::form::LentSeries;
 use series::form::Series;

@@ -2,8 +2,8 @@
 ghost use Prim.Native.Nat.{_≤_};
 ghost use lib.ListN.{length};
 ghost use Rattle.std.specs.Vec.{made};
-use job_text::print_out;
-use job_text::work_text;
+use job_text::report::print_out;
+use job_text::whole::work_text;
 use std::io;
 use std::io::Read;
 

@@ -1,4 +1,2 @@
-pub mod Runs
-pub mod LineEnds
 pub mod Texts
 pub mod Prints

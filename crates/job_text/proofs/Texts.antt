@@ -6,8 +6,8 @@ use lib.ListN.{length, take, drop}
 use Rattle.std.proofs.shelf.Lists.{append-assoc, append-nil}
 use Rattle.job_text.specs.declared.answer.Answer.{Answer}
 use Rattle.job_text.specs.Jobs.{Stage, fresh, Worked, WorkedAll, no-line, one-line, LinesWorked}
-use Rattle.job_text.specs.Split.{linesOf, lineEnd}
-use Rattle.job_text.proofs.LineEnds.{lines-more, lines-none}
+use Rattle.job_line.specs.Split.{linesOf, lineEnd}
+use Rattle.job_line.proofs.LineEnds.{lines-more, lines-none}
 
 -- one line more at the end
 pub all-more : {s t u : Stage} {lines : List (List ℕ)} {answers : List Answer} (line : List ℕ) (a : Answer) → WorkedAll s lines answers t → Worked t line a u → WorkedAll s (lines ++ line ∷ []) (answers ++ a ∷ []) u

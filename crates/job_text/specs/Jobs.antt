@@ -25,11 +25,11 @@ use Rattle.job_text.specs.declared.answer.Answer.{Answer}
 use Rattle.job_text.specs.declared.answer.Answer.the-variants as answer
 use Rattle.job_text.specs.declared.job.Job.{Job}
 use Rattle.job_text.specs.declared.job.Job.the-variants.{Open, Released}
-use Rattle.job_text.specs.declared.lines.Line.{Line}
-use Rattle.job_text.specs.declared.lines.Line.the-variants.{Add, Strike, Part, ReadOut, Release}
-use Rattle.job_text.specs.Grammar.{lineOf}
-use Rattle.job_text.specs.Said.{toldLine}
-use Rattle.job_text.specs.Split.{linesOf}
+use Rattle.job_line.specs.declared.lines.Line.{Line}
+use Rattle.job_line.specs.declared.lines.Line.the-variants.{Add, Strike, Part, ReadOut, Release}
+use Rattle.job_line.specs.Grammar.{lineOf}
+use Rattle.job_line.specs.Said.{toldLine}
+use Rattle.job_line.specs.Split.{linesOf}
 
 -- a job's run: the samples that it holds, and whether it is still open
 pub record Stage : Type 0 where

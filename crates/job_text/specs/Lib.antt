@@ -1,6 +1,2 @@
-pub mod Bytes
-pub mod Grammar
-pub mod Said
-pub mod Split
 pub mod Jobs
 pub mod Shown

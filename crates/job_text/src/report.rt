@@ -3,8 +3,8 @@ ghost use mathlib.Core.Path.{_≡_};
 ghost use Rattle.std.specs.Of.String.{string-bytes};
 ghost use Rattle.std.specs.Vec.{made};
 ghost use Rattle.job_text.specs.Shown.{shownLine, printed};
-use super::answer::Answer;
-use super::answer::AnswerDisplay;
+use crate::answer::Answer;
+use crate::answer::AnswerDisplay;
 use std::alloc::AllocError;
 use std::alloc::Global;
 

@@ -1,8 +1,8 @@
 use native.Mathlib.Omega.{arith}
 use Rattle.std.proofs.shelf.Ways.{tells}
-use Rattle.job_text.specs.Split.{inLine}
-use Rattle.job_text.proofs.Runs.{run-more, run-stops, run-all}
-use Rattle.job_text.proofs.text.line_end.Needs as need
+use Rattle.job_line.specs.Split.{inLine}
+use Rattle.job_line.proofs.Runs.{run-more, run-stops, run-all}
+use Rattle.job_line.proofs.text.line_end.Needs as need
 
 pub loop-end-again : need.loop-end-again
 loop-end-again c =

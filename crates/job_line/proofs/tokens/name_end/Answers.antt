@@ -1,8 +1,8 @@
 use native.Mathlib.Omega.{arith}
 use mathlib.Core.Path.{_∙_, sym}
-use Rattle.job_text.specs.Bytes.{isName}
-use Rattle.job_text.proofs.Runs.{run-more, run-stops, run-all}
-use Rattle.job_text.proofs.tokens.name_end.Needs as need
+use Rattle.job_line.specs.Bytes.{isName}
+use Rattle.job_line.proofs.Runs.{run-more, run-stops, run-all}
+use Rattle.job_line.proofs.tokens.name_end.Needs as need
 
 pub loop-end-again : need.loop-end-again
 loop-end-again c = run-more isName _ _ _ (omega arith) (cc) (c .loop-end .inv)

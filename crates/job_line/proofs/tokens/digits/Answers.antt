@@ -1,8 +1,8 @@
 use native.Mathlib.Omega.{arith}
 use mathlib.Core.Path.{_∙_, sym, ap}
-use Rattle.job_text.specs.Bytes.{isDigit, held}
-use Rattle.job_text.proofs.Runs.{run-more, run-stops, run-all, decimal-more, decimal-all}
-use Rattle.job_text.proofs.tokens.digits.Needs as need
+use Rattle.job_line.specs.Bytes.{isDigit, held}
+use Rattle.job_line.proofs.Runs.{run-more, run-stops, run-all, decimal-more, decimal-all}
+use Rattle.job_line.proofs.tokens.digits.Needs as need
 
 pub loop-end-again : need.loop-end-again
 loop-end-again c = (

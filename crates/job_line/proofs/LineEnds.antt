@@ -8,7 +8,7 @@ use lib.Dec.{eqb}
 use lib.ListN.{length, take, drop}
 use Rattle.std.proofs.shelf.Lists.{length-drop, drop-drop, drop-all}
 use Rattle.std.specs.shelf.Lists.{leading}
-use Rattle.job_text.specs.Split.{linesOf, prepend, inLine, lineEnd}
+use Rattle.job_line.specs.Split.{linesOf, prepend, inLine, lineEnd}
 
 -- a byte that ends the line, or that is the first of it
 first-byte : (t : Bool) (b n : ℕ) (bs : List ℕ) → prepend b (linesOf bs) ≡ take (1 + n) (b ∷ bs) ∷ linesOf (drop (1 + n + 1) (b ∷ bs)) → cond t ([] ∷ linesOf bs) (prepend b (linesOf bs)) ≡ take (cond (not t) (1 + n) 0) (b ∷ bs) ∷ linesOf (drop (cond (not t) (1 + n) 0 + 1) (b ∷ bs))

@@ -1,8 +1,8 @@
 use Prim.Native.Nat.{_+_, _-_, _≤_}
 use mathlib.Core.Path.{_≡_}
 use lib.ListN.{length, take, drop}
-use Rattle.job_text.specs.Bytes.{isDigit, runLength, held, decimal}
-use Rattle.job_text.proofs.tokens.digits.Given as given
+use Rattle.job_line.specs.Bytes.{isDigit, runLength, held, decimal}
+use Rattle.job_line.proofs.tokens.digits.Given as given
 
 -- the digits so far, and how far the run goes
 abbrev pub Inv-loop-end : given.InvT-loop-end

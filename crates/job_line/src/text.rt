@@ -2,7 +2,7 @@
 ghost use lib.ListN.{length};
 ghost use Prim.Native.Nat.{_≤_};
 ghost use mathlib.Core.Path.{_≡_};
-ghost use Rattle.job_text.specs.Split.{lineEnd};
+ghost use Rattle.job_line.specs.Split.{lineEnd};
 
 /// The place of the first line feed at or after `from`, or the text's length;
 /// a place past the end is its own answer.

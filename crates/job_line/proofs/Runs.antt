@@ -8,7 +8,7 @@ use lib.ListN.{length, getD, take, drop}
 use Rattle.std.proofs.shelf.Lists.{length-drop, getD-drop}
 use Rattle.std.proofs.shelf.Sums.{folded-more, leading-drop-yes, leading-drop-no, leading-drop-all, leading-le-length}
 use Rattle.std.specs.declared.option.Option.{Option}
-use Rattle.job_text.specs.Bytes.{isDigit, decimal, held, runLength, runAt}
+use Rattle.job_line.specs.Bytes.{isDigit, decimal, held, runLength, runAt}
 
 -- a loop over a run of bytes that pass: one step, its stop at a byte that does not, and at the end
 pub run-more : (p : ℕ → Bool) (xs : List ℕ) (place end : ℕ) → end < length xs → p (getD xs end 0) ≡ true → end + runLength p xs end ≡ place + runLength p xs place → (end + 1) + runLength p xs (end + 1) ≡ place + runLength p xs place

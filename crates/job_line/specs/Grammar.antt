@@ -9,9 +9,9 @@ use Rattle.std.specs.declared.option.Option.{Option}
 use Rattle.std.specs.declared.option.Option.the-variants.{Some, None}
 use Rattle.std.specs.declared.result.Result.{Result}
 use Rattle.std.specs.declared.result.Result.the-variants.{Ok, Err}
-use Rattle.job_text.specs.Bytes.{isDigit, isName, runLength, runAt, decimal, standsAt, held, heldSigned}
-use Rattle.job_text.specs.declared.tokens.Field.{Field}
-use Rattle.job_text.specs.declared.tokens.Field.the-variants.{Sample, Number, Name}
+use Rattle.job_line.specs.Bytes.{isDigit, isName, runLength, runAt, decimal, standsAt, held, heldSigned}
+use Rattle.job_line.specs.declared.tokens.Field.{Field}
+use Rattle.job_line.specs.declared.tokens.Field.the-variants.{Sample, Number, Name}
 
 -- what a field says
 pub data Said : Type 0 where

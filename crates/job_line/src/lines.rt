@@ -1,11 +1,11 @@
 // What a job line says.
 ghost use mathlib.Core.Path.{_≡_};
 ghost use Rattle.std.specs.declared.result.Result.the-variants.{Ok};
-ghost use Rattle.job_text.specs.Grammar.{andThen, endAt, lineOf};
-ghost use Rattle.job_text.specs.Said.{lineSays, toldLine};
-use super::tokens::number;
-use super::tokens::sample;
-use super::tokens::word;
+ghost use Rattle.job_line.specs.Grammar.{andThen, endAt, lineOf};
+ghost use Rattle.job_line.specs.Said.{lineSays, toldLine};
+use crate::tokens::number;
+use crate::tokens::sample;
+use crate::tokens::word;
 
 /// What a formed line says.
 #[derive(Clone, Copy)]

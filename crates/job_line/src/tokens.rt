@@ -2,9 +2,9 @@
 ghost use mathlib.Core.Path.{_≡_};
 ghost use mathlib.Core.Bool.{true};
 ghost use Prim.Native.Nat.{ℕ, _+_, _-_, _*_};
-ghost use Rattle.job_text.specs.Bytes.{isDigit, isName, standsAt, held, heldSigned, decimal, runAt, runLength};
-ghost use Rattle.job_text.specs.Grammar.{a-word, a-number, a-signed, fieldAt, spaceAt, nextAt};
-ghost use Rattle.job_text.specs.Said.{told, tokenSays};
+ghost use Rattle.job_line.specs.Bytes.{isDigit, isName, standsAt, held, heldSigned, decimal, runAt, runLength};
+ghost use Rattle.job_line.specs.Grammar.{a-word, a-number, a-signed, fieldAt, spaceAt, nextAt};
+ghost use Rattle.job_line.specs.Said.{told, tokenSays};
 
 /// A word or a number of a line; a word borrows its bytes from the line.
 #[derive(Clone, Copy)]

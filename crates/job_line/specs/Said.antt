@@ -4,11 +4,11 @@ use mathlib.Core.List.{List, [], _∷_}
 use denote.Ref.{now}
 use Rattle.std.specs.declared.result.Result.{Result}
 use Rattle.std.specs.declared.result.Result.the-variants.{Ok, Err}
-use Rattle.job_text.specs.Grammar.{Said, a-word, a-number, a-signed}
-use Rattle.job_text.specs.declared.tokens.Token.{Token}
-use Rattle.job_text.specs.declared.tokens.Token.the-variants.{Word, Number, Signed}
-use Rattle.job_text.specs.declared.lines.Line.{Line}
-use Rattle.job_text.specs.declared.lines.Line.the-variants.{Add, Strike, Part, ReadOut, Release}
+use Rattle.job_line.specs.Grammar.{Said, a-word, a-number, a-signed}
+use Rattle.job_line.specs.declared.tokens.Token.{Token}
+use Rattle.job_line.specs.declared.tokens.Token.the-variants.{Word, Number, Signed}
+use Rattle.job_line.specs.declared.lines.Line.{Line}
+use Rattle.job_line.specs.declared.lines.Line.the-variants.{Add, Strike, Part, ReadOut, Release}
 
 -- what a token says
 abbrev pub tokenSays : Token → Said

@@ -1,8 +1,8 @@
 use Prim.Native.Nat.{_+_, _-_}
 use mathlib.Core.Path.{_≡_}
 use lib.ListN.{length}
-use Rattle.job_text.specs.Bytes.{isName, runLength}
-use Rattle.job_text.proofs.tokens.name_end.Given as given
+use Rattle.job_line.specs.Bytes.{isName, runLength}
+use Rattle.job_line.proofs.tokens.name_end.Given as given
 
 abbrev pub Inv-loop-end : given.InvT-loop-end
 Inv-loop-end l = l .end + runLength isName (l .line) (l .end) ≡ l .place + runLength isName (l .line) (l .place)

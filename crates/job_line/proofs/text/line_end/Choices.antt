@@ -1,8 +1,8 @@
 use Prim.Native.Nat.{_-_, _≤_}
 use mathlib.Core.Path.{_≡_}
 use lib.ListN.{length}
-use Rattle.job_text.specs.Split.{lineEnd}
-use Rattle.job_text.proofs.text.line_end.Given as given
+use Rattle.job_line.specs.Split.{lineEnd}
+use Rattle.job_line.proofs.text.line_end.Given as given
 
 -- the end of the line is the same, seen from here
 abbrev pub Inv-loop-end : given.InvT-loop-end
