@@ -3,12 +3,13 @@ ghost use Prim.Native.Nat.{_≤_};
 ghost use lib.ListN.{length};
 ghost use Rattle.std.specs.Vec.{made};
 use job_text::report::print_out;
+use job_text::whole::MOST;
 use job_text::whole::work_text;
 use std::io;
 use std::io::Read;
 
 // One byte more than a job text has at most, so that a longer one is seen to be too long.
-const ROOM: usize = 65_537;
+const ROOM: usize = MOST + 1;
 
 // Reads to the end of the input or of the buffer: how many bytes there are now.
 fn fill<R: Read>(input: &mut R, buffer: &mut [u8]) -> io::Result<usize>

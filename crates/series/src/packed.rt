@@ -122,7 +122,7 @@ pub impl<'a> Series for Packed<'a> as PackedSeries {
     }
 
     fn reach(&self) -> u64 {
-        1_048_576
+        LARGEST as u64
     }
 
     fn sample(&self, place: usize) -> Result<i64, Fault> {

@@ -71,7 +71,10 @@ pub impl Statistic for Avar as AvarStatistic {
 
     ghost model = { avar };
 
-    fn blind_to() -> Blindness {
+    fn blind_to() -> Blindness
+        ensures model { λ r. ⌜ r ≡ avar .formula .blindness ⌝ }
+        ensures constant { λ r. do ⌜ r ≡ (← ⟦Avar::BLINDNESS⟧ .entry) ⌝ }
+    {
         Self::BLINDNESS
     }
 

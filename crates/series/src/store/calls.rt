@@ -64,7 +64,7 @@ pub impl Series for Store as StoreSeries {
     }
 
     fn reach(&self) -> u64 {
-        1_048_576
+        LARGEST as u64
     }
 
     fn sample(&self, place: usize) -> Result<i64, Fault> {
