@@ -210,7 +210,7 @@ def filled():
 
 
 def filled_far():
-    """As many samples of +-1048576 as a text of this size leaves room for."""
+    """A full run of samples of +-1048576."""
     lines = [b'A %d' % (1048576 if n % 2 else -1048576) for n in range(4096)]
     lines += [b'A 1', b'R']
     for m in (1, 2, 3, 1023, 2047, 2048):
@@ -282,10 +282,8 @@ def every_byte():
                   b'V' + c, b'V ' + c, b'V avar' + c, b'V avar ' + c,
                   b'V avar 1' + c, b'P avar 1' + c, b'P avar 1 ' + c,
                   b'P avar 1 1' + c, b'V a' + c + b'r 1']
-        if c != b'R':
-            lines.append(c)
         lines.append(b'R' + c)
-    # the first round holds the one bare R: move it to the end
+    # the one bare R goes to the end
     lines = [line for line in lines if line != b'R'] + [b'R', b'A 1', b'S']
     return text_of(lines)
 

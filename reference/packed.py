@@ -1,11 +1,10 @@
-#!/usr/bin/env python3
 """What the conformance program prints of packed samples.
 
 Samples of four bytes, least byte first, two's complement.  Bytes are
 refused, at layer 1: 13 unless their number is a multiple of four; then 2
 above 4,096 samples; then 1 at the first sample beyond 1,048,576, with its
 place.  Accepted bytes print their count and reach, their first samples and
-the one past the last, and avar at the factors 0 to 4.
+two places past the last, and avar at the factors 0 to 4.
 """
 
 import random

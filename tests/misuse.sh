@@ -1,7 +1,7 @@
 #!/usr/bin/env bash
-# Shows that a released run takes no sample: the use does not compile, by the name of the compiler's error.
-# In a copy of the repository, a crate that adds to an open run must be read without an error,
-# and the same crate that adds to the released run must be refused.
+# Shows that a released run takes no add and no strike: the use does not compile, by the name of the compiler's error.
+# In a copy of the repository, a crate that adds to an open run and strikes must be read without an error,
+# and the same calls on the released run must be refused.
 set -euo pipefail
 cd "$(dirname "$0")/.."
 copy=$(mktemp -d)
@@ -23,6 +23,7 @@ compiled() {
 if ! out=$(compiled <<'RT'
 pub fn late(run: OpenRun) -> Result<usize, Fault> {
     let mut run = run;
+    let _ = run.strike();
     let answer = run.add(5);
     let _released = run.release();
     answer
@@ -34,19 +35,22 @@ RT
     exit 1
 fi
 
-if out=$(compiled <<'RT'
+for call in 'add(5)' 'strike()'; do
+    name=${call%%(*}
+    if out=$(compiled <<RT
 pub fn late(run: OpenRun) -> Result<usize, Fault> {
     let mut released = run.release();
-    released.add(5)
+    released.$call
 }
 RT
-); then
-    echo 'misuse: an add to a released run was taken'
-    exit 1
-fi
-if ! printf '%s\n' "$out" | grep -F 'error[unknown-method]: no method named `add` found for type `ReleasedRun`'; then
-    printf '%s\n' "$out" | tail -n 20
-    echo 'misuse: an add to a released run was refused for another reason'
-    exit 1
-fi
-echo 'misuse: 2 passed, 0 failed'
+    ); then
+        echo "misuse: $name was taken on a released run"
+        exit 1
+    fi
+    if ! printf '%s\n' "$out" | grep -F "error[unknown-method]: no method named \`$name\` found for type \`ReleasedRun\`"; then
+        printf '%s\n' "$out" | tail -n 20
+        echo "misuse: $name on a released run was refused for another reason"
+        exit 1
+    fi
+done
+echo 'misuse: 3 passed, 0 failed'

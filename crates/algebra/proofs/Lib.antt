@@ -1,7 +1,6 @@
 pub mod Laws
 pub mod Ring
 pub mod Reify
-pub mod Order
 pub mod Sizes
 pub mod Sums
 pub mod Squares

@@ -80,10 +80,6 @@ pub sumZ-add : (n : ℕ) (f g : ℕ → ℤ) → sumZ n (λ k. f k +ℤ g k) ≡
 sumZ-add zero f g = refl
 sumZ-add (suc n) f g = omega (arith, ints, sumZ-add n f g)
 
-pub sumZ-neg : (n : ℕ) (f : ℕ → ℤ) → sumZ n (λ k. negℤ (f k)) ≡ negℤ (sumZ n f)
-sumZ-neg zero f = refl
-sumZ-neg (suc n) f = omega (arith, ints, sumZ-neg n f)
-
 pub sumZ-none : (n : ℕ) → sumZ n (λ k. pos 0) ≡ pos 0
 sumZ-none zero = refl
 sumZ-none (suc n) = omega (arith, ints, sumZ-none n)

@@ -1,4 +1,4 @@
--- The laws of sums, squares and second differences that the crates above rest on.
+-- The laws of sums, squares and second differences.
 use mathlib.Core.Path.{_≡_}
 use Prim.Native.Nat.{ℕ, _+_, _-_, _*_, _≤_, _<_}
 use lib.IntN.{ℤ, pos, natAbs, _+ℤ_, _*ℤ_}

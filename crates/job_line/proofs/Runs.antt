@@ -8,7 +8,7 @@ use lib.ListN.{length, getD, take, drop}
 use Rattle.std.proofs.shelf.Lists.{length-drop, getD-drop}
 use Rattle.std.proofs.shelf.Sums.{folded-more, leading-drop-yes, leading-drop-no, leading-drop-all, leading-le-length}
 use Rattle.std.specs.declared.option.Option.{Option}
-use Rattle.job_line.specs.Bytes.{isDigit, decimal, held, runLength, runAt}
+use Rattle.job_line.specs.Bytes.{isDigit, valueOfDigits, fits64, runLength, runAt}
 
 -- a loop over a run of bytes that pass: one step, its stop at a byte that does not, and at the end
 pub run-more : (p : ℕ → Bool) (xs : List ℕ) (place end : ℕ) → end < length xs → p (getD xs end 0) ≡ true → end + runLength p xs end ≡ place + runLength p xs place → (end + 1) + runLength p xs (end + 1) ≡ place + runLength p xs place
@@ -25,7 +25,7 @@ pub run-within : (p : ℕ → Bool) (xs : List ℕ) (place : ℕ) → 0 < runLen
 run-within p xs place h = omega (arith, leading-le-length p (drop place xs), length-drop place xs)
 
 -- one more digit
-pub decimal-more : (xs : List ℕ) (place end : ℕ) → place ≤ end → end < length xs → decimal (take (end + 1 - place) (drop place xs)) ≡ decimal (take (end - place) (drop place xs)) * 10 + (getD xs end 0 - 48)
+pub decimal-more : (xs : List ℕ) (place end : ℕ) → place ≤ end → end < length xs → valueOfDigits (take (end + 1 - place) (drop place xs)) ≡ valueOfDigits (take (end - place) (drop place xs)) * 10 + (getD xs end 0 - 48)
 decimal-more xs place end low high =
     let i : end + 1 - place ≡ (end - place) + 1 = omega arith in
     let j : place + (end - place) ≡ end = omega arith in
@@ -35,6 +35,6 @@ decimal-more xs place end low high =
     rw (i, more, at, j)
 
 -- all digits of the run
-pub decimal-all : (xs : List ℕ) (place end : ℕ) (v : Option ℕ) → v ≡ held (decimal (take (end - place) (drop place xs))) → end ≡ place + runLength isDigit xs place → v ≡ held (decimal (runAt isDigit xs place))
+pub decimal-all : (xs : List ℕ) (place end : ℕ) (v : Option ℕ) → v ≡ fits64 (valueOfDigits (take (end - place) (drop place xs))) → end ≡ place + runLength isDigit xs place → v ≡ fits64 (valueOfDigits (runAt isDigit xs place))
 decimal-all xs place end v inv e =
-    let n : end - place ≡ runLength isDigit xs place = omega arith in inv ∙ ap (λ k. held (decimal (take k (drop place xs)))) n
+    let n : end - place ≡ runLength isDigit xs place = omega arith in inv ∙ ap (λ k. fits64 (valueOfDigits (take k (drop place xs)))) n

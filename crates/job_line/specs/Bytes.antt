@@ -27,18 +27,18 @@ abbrev pub runAt : (ℕ → Bool) → List ℕ → ℕ → List ℕ
 runAt p line place = take (leading p (drop place line)) (drop place line)
 
 -- the number that decimal digits write
-abbrev pub decimal : List ℕ → ℕ
-decimal ds = folded (λ n d. n * 10 + (d - 48)) 0 ds
+abbrev pub valueOfDigits : List ℕ → ℕ
+valueOfDigits ds = folded (λ n d. n * 10 + (d - 48)) 0 ds
 
 -- whether this byte stands at the place
 abbrev pub standsAt : ℕ → List ℕ → ℕ → Bool
 standsAt b line place = ltb place (length line) && eqb (getD line place 0) b
 
 -- a number, if 64 bits hold it: at most 2^64 - 1
-abbrev pub held : ℕ → Option ℕ
-held n = cond (ltb n (2 ^ 64)) (Some n) None
+abbrev pub fits64 : ℕ → Option ℕ
+fits64 n = cond (ltb n (2 ^ 64)) (Some n) None
 
 -- a number with or without a minus, if it is from -2^63 to 2^63 - 1
-abbrev pub heldSigned : Bool → ℕ → Option ℤ
-heldSigned true n = cond (leb n (2 ^ 63)) (Some (negℤ (pos n))) None
-heldSigned false n = cond (ltb n (2 ^ 63)) (Some (pos n)) None
+abbrev pub fits64Signed : Bool → ℕ → Option ℤ
+fits64Signed true n = cond (leb n (2 ^ 63)) (Some (negℤ (pos n))) None
+fits64Signed false n = cond (ltb n (2 ^ 63)) (Some (pos n)) None

@@ -1,7 +1,7 @@
 // What a job line says.
 ghost use mathlib.Core.Path.{_≡_};
 ghost use Rattle.std.specs.declared.result.Result.the-variants.{Ok};
-ghost use Rattle.job_line.specs.Grammar.{andThen, endAt, lineOf};
+ghost use Rattle.job_line.specs.Grammar.{thenRead, endAt, lineOf};
 ghost use Rattle.job_line.specs.Said.{lineSays, toldLine};
 use crate::tokens::number;
 use crate::tokens::sample;
@@ -19,7 +19,7 @@ pub enum Line<'a> {
 
 /// What was read, if nothing more stands at `place`.
 fn ended<'a>(line: &[u8], place: usize, said: Line<'a>) -> Result<Line<'a>, usize>
-    ensures { λ r. ⌜ toldLine r ≡ andThen (endAt (now (line .entry)) place) (λ _. Ok (lineSays (said .entry))) ⌝ }
+    ensures { λ r. ⌜ toldLine r ≡ thenRead (endAt (now (line .entry)) place) (λ _. Ok (lineSays (said .entry))) ⌝ }
 {
     if place < line.len() {
         return Err(place);

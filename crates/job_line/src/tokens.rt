@@ -2,7 +2,7 @@
 ghost use mathlib.Core.Path.{_≡_};
 ghost use mathlib.Core.Bool.{true};
 ghost use Prim.Native.Nat.{ℕ, _+_, _-_, _*_};
-ghost use Rattle.job_line.specs.Bytes.{isDigit, isName, standsAt, held, heldSigned, decimal, runAt, runLength};
+ghost use Rattle.job_line.specs.Bytes.{isDigit, isName, standsAt, fits64, fits64Signed, valueOfDigits, runAt, runLength};
 ghost use Rattle.job_line.specs.Grammar.{a-word, a-number, a-signed, fieldAt, spaceAt, nextAt};
 ghost use Rattle.job_line.specs.Said.{told, tokenSays};
 
@@ -46,14 +46,14 @@ fn stands(b: u8, line: &[u8], place: usize) -> bool
 /// The number with one more digit, if 64 bits hold it.
 fn with_digit(value: Option<u64>, b: u8) -> Option<u64>
     requires { ⌜ isDigit b ≡ true ⌝ }
-    ensures { λ r. ⌜ ((v : ℕ) → value ≡ held v → r ≡ held (v * 10 + (b - 48))) ⌝ }
+    ensures { λ r. ⌜ ((v : ℕ) → value ≡ fits64 v → r ≡ fits64 (v * 10 + (b - 48))) ⌝ }
 {
     value?.checked_mul(10)?.checked_add((b - b'0') as u64)
 }
 
 /// The number with or without a minus, if 64 bits hold it as a signed number.
 fn with_sign(minus: bool, size: Option<u64>) -> Option<i64>
-    ensures { λ r. ⌜ ((v : ℕ) → size ≡ held v → r ≡ heldSigned minus v) ⌝ }
+    ensures { λ r. ⌜ ((v : ℕ) → size ≡ fits64 v → r ≡ fits64Signed minus v) ⌝ }
 {
     let n = size?;
     if minus {
@@ -70,7 +70,7 @@ fn with_sign(minus: bool, size: Option<u64>) -> Option<i64>
 
 /// The number that the digits from `place` on write, if 64 bits hold it, and the place after them.
 fn digits(line: &[u8], place: usize) -> (Option<u64>, usize)
-    ensures value { λ r. ⌜ r .0 ≡ held (decimal (runAt isDigit (now (line .entry)) place)) ⌝ }
+    ensures value { λ r. ⌜ r .0 ≡ fits64 (valueOfDigits (runAt isDigit (now (line .entry)) place)) ⌝ }
     ensures after { λ r. ⌜ r .1 ≡ place + runLength isDigit (now (line .entry)) place ⌝ }
 {
     let mut value = Some(0);

@@ -1,6 +1,6 @@
 -- What a job does: line by line, the bench's own calls.
 use mathlib.Core.Path.{_≡_}
-use mathlib.Core.Bool.{Bool, true, false, cond}
+use mathlib.Core.Bool.{Bool, true, false}
 use mathlib.Core.List.{List, [], _∷_}
 use Prim.Native.Nat.{ℕ}
 use lib.Dec.{leb}
@@ -16,7 +16,6 @@ use Rattle.series.specs.declared.fault.Cause.the-variants.{MalformedLine, NotIn
 use Rattle.series.specs.declared.fault.Layer.the-variants.{Bench}
 use Rattle.series.specs.declared.fault.Fault.{Fault}
 use Rattle.series.specs.Faults.{fault}
-use Rattle.statistics.specs.Model.{Model}
 use Rattle.variances.specs.declared.name.Variance.{Variance}
 use Rattle.variances.specs.Names.{modelOf, Named}
 use Rattle.bench.specs.Calls.{Added, Struck, PartAnswered, ReadAnswered}

@@ -1,13 +1,11 @@
 // A job, worked line by line.
 ghost use mathlib.Core.Path.{_≡_};
-ghost use lib.ListN.{length};
-ghost use Prim.Native.Nat.{ℕ};
 ghost use Rattle.std.specs.Vec.{made};
 ghost use Rattle.series.specs.declared.fault.Layer.the-variants.{Bench};
 ghost use Rattle.series.specs.Faults.{fault};
 ghost use Rattle.variances.specs.Names.{modelOf};
 ghost use Rattle.bench.specs.Calls.{PartAnswered, ReadAnswered};
-ghost use Rattle.job_text.specs.Jobs.{stageOf, fresh, answered, Does, Worked};
+ghost use Rattle.job_text.specs.Jobs.{stageOf, fresh, Does, Worked};
 ghost use Rattle.job_line.specs.declared.lines.Line.{Line as SaidLine};
 use crate::answer::Answer;
 use bench::open_run::OpenRun;

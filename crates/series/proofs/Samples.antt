@@ -19,9 +19,6 @@ sample-at s k h = sym (cond-true (ltb k (s .size)) _ _ (lt-ltb k (s .size) h))
 pub sample-past : (s : Seen) (k : ℕ) → s .size ≤ k → Err (fault NoSuchPlace Series k) ≡ sampleOf s k
 sample-past s k h = sym (cond-false (ltb k (s .size)) _ _ (le-ltb k (s .size) h))
 
--- an answer is the sample, and within the series no answer is a refusal
+-- an answer is the sample
 pub sample-is : (s : Seen) (k : ℕ) (x : ℤ) → k < s .size → Ok x ≡ sampleOf s k → x ≡ s .value k
 sample-is s k x h e = let f = sample-at s k h in cc
-
-pub sample-stands : {P : Type 0} (s : Seen) (k : ℕ) (f : Fault) → k < s .size → Err f ≡ sampleOf s k → P
-sample-stands s k f h e = let g = sample-at s k h in let z : _≡_ {A = ℕ} 0 1 = cc in absurd (omega arith)

@@ -19,7 +19,7 @@ use Rattle.series.specs.Faults.{fault, causeNumber}
 use Rattle.series.specs.Limits.{fullest, largest}
 use Rattle.series.specs.Seen.{Seen}
 use Rattle.series.specs.Listed.{listed}
-use Rattle.series.specs.Packed.{sample, unpacked, firstBeyond, FirstBeyond, beyond, packedRefusal, RefusalTells, bounded, viewed}
+use Rattle.series.specs.Packed.{sample, unpacked, firstBeyond, FirstOut, beyond, packedRefusal, RefusalTells, bounded, viewed}
 
 pub length-unpacked : (bs : List ℕ) → length (unpacked bs) ≡ length bs / 4
 length-unpacked [] = refl
@@ -55,29 +55,21 @@ front-is (a ∷ (b ∷ [])) h = absurd (omega arith)
 front-is (a ∷ (b ∷ (c ∷ []))) h = absurd (omega arith)
 front-is (a ∷ (b ∷ (c ∷ (d ∷ rest)))) h = ap (λ r. sample a b c d ∷ unpacked r) (sym (between-to-end (a ∷ (b ∷ (c ∷ (d ∷ rest)))) 4 _ (omega arith)))
 
--- and fewer: none
-pub no-front : (bs : List ℕ) → length bs < 4 → unpacked bs ≡ []
-no-front [] h = refl
-no-front (a ∷ []) h = refl
-no-front (a ∷ (b ∷ [])) h = refl
-no-front (a ∷ (b ∷ (c ∷ []))) h = refl
-no-front (a ∷ (b ∷ (c ∷ (d ∷ rest)))) h = absurd (omega arith)
-
 -- the first one out of range, where the first of these has the place k
-first-from : (k p : ℕ) (xs : List ℤ) → firstBeyond k xs ≡ Some p → (k ≤ p) × FirstBeyond xs (p - k)
+first-from : (k p : ℕ) (xs : List ℤ) → firstBeyond k xs ≡ Some p → (k ≤ p) × FirstOut xs (p - k)
 first-from k p [] e = let z : _≡_ {A = ℕ} 0 1 = cc in absurd (omega arith)
 first-from k p (x ∷ xs) e = go (leb (natAbs x) largest) refl (first-from (k + 1) p xs) e
   where
-    later : (j : ℕ) → j + 1 ≤ p → k ≡ j → FirstBeyond xs (p - (j + 1)) → natAbs x ≤ largest → FirstBeyond (x ∷ xs) (p - k)
-    later j l q f h = let n : p - k ≡ suc (p - (j + 1)) = omega arith in subst (λ i. FirstBeyond (x ∷ xs) i) (sym n) (record {
+    later : (j : ℕ) → j + 1 ≤ p → k ≡ j → FirstOut xs (p - (j + 1)) → natAbs x ≤ largest → FirstOut (x ∷ xs) (p - k)
+    later j l q f h = let n : p - k ≡ suc (p - (j + 1)) = omega arith in subst (λ i. FirstOut (x ∷ xs) i) (sym n) (record {
       inside = suc-le-suc (f .inside);
       passes = f .passes;
       before = λ i. elim i as (λ i. i < suc (p - (j + 1)) → natAbs (getD (x ∷ xs) i (pos 0)) ≤ largest) [ zero ↦ λ _. h | suc i ↦ λ b. f .before i (omega arith) ];
     })
 
-    go : (b : Bool) → leb (natAbs x) largest ≡ b → (firstBeyond (k + 1) xs ≡ Some p → (k + 1 ≤ p) × FirstBeyond xs (p - (k + 1))) → cond b (firstBeyond (k + 1) xs) (Some k) ≡ Some p → (k ≤ p) × FirstBeyond (x ∷ xs) (p - k)
+    go : (b : Bool) → leb (natAbs x) largest ≡ b → (firstBeyond (k + 1) xs ≡ Some p → (k + 1 ≤ p) × FirstOut xs (p - (k + 1))) → cond b (firstBeyond (k + 1) xs) (Some k) ≡ Some p → (k ≤ p) × FirstOut (x ∷ xs) (p - k)
     go true h r e = let f = r e in (omega (arith, f .0), later k (f .0) refl (f .1) (leb-true (natAbs x) largest h))
-    go false h r e = let q : k ≡ p = cc in let n : p - k ≡ 0 = omega arith in (omega arith, subst (λ i. FirstBeyond (x ∷ xs) i) (sym n) (record { inside = omega arith; passes = leb-false (natAbs x) largest h; before = λ i l. absurd (omega arith) }))
+    go false h r e = let q : k ≡ p = cc in let n : p - k ≡ 0 = omega arith in (omega arith, subst (λ i. FirstOut (x ∷ xs) i) (sym n) (record { inside = omega arith; passes = leb-false (natAbs x) largest h; before = λ i l. absurd (omega arith) }))
 
 -- where none is out of range, each is in range
 pub none-beyond : (k : ℕ) (xs : List ℤ) → firstBeyond k xs ≡ None → (i : ℕ) → natAbs (getD xs i (pos 0)) ≤ largest
@@ -122,9 +114,9 @@ which bs b c = cond b (cond c (Some (fault Full Series 0)) (beyond (firstBeyond 
 pub refusal-tells : (bs : List ℕ) → RefusalTells bs (packedRefusal bs)
 refusal-tells bs = (at (eqb (length bs % 4) 0) (ltb (4 * fullest) (length bs)), none (eqb (length bs % 4) 0) (ltb (4 * fullest) (length bs)) refl refl)
   where
-    at : (b c : Bool) (p : ℕ) → which bs b c ≡ Some (fault OutOfRange Series p) → FirstBeyond (unpacked bs) p
+    at : (b c : Bool) (p : ℕ) → which bs b c ≡ Some (fault OutOfRange Series p) → FirstOut (unpacked bs) p
     at true true p e = apart e (λ z. omega arith)
-    at true false p e = let n : p - 0 ≡ p = omega arith in subst (λ i. FirstBeyond (unpacked bs) i) n (first-from 0 p (unpacked bs) (beyond-at _ p e) .1)
+    at true false p e = let n : p - 0 ≡ p = omega arith in subst (λ i. FirstOut (unpacked bs) i) n (first-from 0 p (unpacked bs) (beyond-at _ p e) .1)
     at false c p e = apart e (λ z. omega arith)
 
     none : (b c : Bool) → eqb (length bs % 4) 0 ≡ b → ltb (4 * fullest) (length bs) ≡ c → which bs b c ≡ None → (length bs % 4 ≡ 0) × (length (unpacked bs) ≤ fullest) × ((i : ℕ) → natAbs (getD (unpacked bs) i (pos 0)) ≤ largest)

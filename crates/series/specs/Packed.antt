@@ -37,7 +37,7 @@ firstBeyond k [] = None
 firstBeyond k (x ∷ xs) = cond (leb (natAbs x) largest) (firstBeyond (k + 1) xs) (Some k)
 
 -- it is out of range, and none before it is
-pub record FirstBeyond (xs : List ℤ) (p : ℕ) : Type 0 where
+pub record FirstOut (xs : List ℤ) (p : ℕ) : Type 0 where
   pub inside : p < length xs
   pub passes : largest < natAbs (getD xs p (pos 0))
   pub before : (i : ℕ) → i < p → natAbs (getD xs i (pos 0)) ≤ largest
@@ -52,7 +52,7 @@ packedRefusal bs = cond (eqb (length bs % 4) 0) (cond (ltb (4 * fullest) (length
 
 -- what a refusal tells: the first sample out of range; and what its absence tells: every sample is in range
 abbrev pub RefusalTells : List ℕ → Option Fault → Type 0
-RefusalTells bs o = ((p : ℕ) → o ≡ Some (fault OutOfRange Series p) → FirstBeyond (unpacked bs) p) × (o ≡ None → (length bs % 4 ≡ 0) × (length (unpacked bs) ≤ fullest) × ((i : ℕ) → natAbs (getD (unpacked bs) i (pos 0)) ≤ largest))
+RefusalTells bs o = ((p : ℕ) → o ≡ Some (fault OutOfRange Series p) → FirstOut (unpacked bs) p) × (o ≡ None → (length bs % 4 ≡ 0) × (length (unpacked bs) ≤ fullest) × ((i : ℕ) → natAbs (getD (unpacked bs) i (pos 0)) ≤ largest))
 
 -- What a reader of bytes sees that it has not checked: at most as many samples as a run may hold, and 0 for one out of range.
 abbrev pub bounded : ℤ → ℤ

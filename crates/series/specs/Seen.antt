@@ -1,7 +1,7 @@
 -- The meaning of a series: so many samples, the sample at each place, and a reach.
 use mathlib.Core.Path.{_≡_}
 use mathlib.Core.Bool.{cond}
-use Prim.Native.Nat.{ℕ, _^_, _≤_, _<_}
+use Prim.Native.Nat.{ℕ, _≤_, _<_}
 use lib.Dec.{ltb}
 use lib.IntN.{ℤ, natAbs}
 use Rattle.algebra.specs.Differences.{Ramped, Drifted, Turned}

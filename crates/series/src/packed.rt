@@ -1,8 +1,8 @@
 // A series over packed bytes that it is lent.
 ghost use mathlib.Core.Path.{_≡_};
-ghost use Prim.Native.Nat.{ℕ, _+_, _*_, _/_, _<_, _≤_};
+ghost use Prim.Native.Nat.{_*_, _≤_};
 ghost use lib.Dec.{leb};
-ghost use lib.IntN.{ℤ, pos, natAbs};
+ghost use lib.IntN.{pos, natAbs};
 ghost use Rattle.series.specs.Limits.{largest};
 ghost use lib.ListN.{length, getD};
 ghost use denote.Ref.{now};

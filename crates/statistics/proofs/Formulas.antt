@@ -16,7 +16,7 @@ use Rattle.series.specs.Faults.{fault, andThen}
 use Rattle.series.specs.Limits.{fullest}
 use Rattle.series.specs.Seen.{Seen, Alike}
 use Rattle.statistics.specs.Totals.{gated}
-use Rattle.statistics.specs.Model.{Formula, partsOf, admitted, divisorOf, termsOf, partTotal, totalOf, partOf, Accepted, SameTotal}
+use Rattle.statistics.specs.Model.{Formula, partsOf, admitted, divisorOf, termsOf, partTotal, totalOf, partOf, IsPart, SameTotal}
 use Rattle.statistics.proofs.Totals.{gated-cong, gated-scaled}
 
 -- ---- answers and refusals
@@ -57,7 +57,7 @@ pub part-stands : (F : Formula) (n m j k : ℕ) → partsOf F n m ≡ Ok k → 1
 part-stands F n m j k e a b = ap (λ r. admitted r j) e ∙ cond-true _ _ _ (and-from (ltb 0 j) (leb j k) (lt-ltb 0 j a) (le-leb j k b))
 
 -- ---- a total that is accepted
-pub total-ok : (F : Formula) (s : Seen) (m j t : ℕ) → totalOf F s m j ≡ Ok t → Accepted F (s .size) m j × (gated (F .root s m j) (F .terms (s .size) m j) ≡ Ok t)
+pub total-ok : (F : Formula) (s : Seen) (m j t : ℕ) → totalOf F s m j ≡ Ok t → IsPart F (s .size) m j × (gated (F .root s m j) (F .terms (s .size) m j) ≡ Ok t)
 total-ok F s m j t e =
     let p = then-ok (admitted (partsOf F (s .size) m) j) (λ _. partTotal F s m j) t e in
     ((p .0, p .1), go (F .reaches (s .size) (s .bound) m) (p .2))
@@ -66,33 +66,13 @@ total-ok F s m j t e =
     go true h = h
     go false h = ok-err (sym h)
 
--- a part is refused as its total is
-pub part-err : (F : Formula) (s : Seen) (m j : ℕ) (f : Fault) → partOf F s m j ≡ Err f → totalOf F s m j ≡ Err f
-part-err F s m j f = go (totalOf F s m j) refl
-  where
-    divided : (t : ℕ) (r : Result ℕ Fault) (k : ℕ) → r ≡ Ok k → andThen {B = ℕ × ℕ} (andThen r (λ _. Ok (F .divisor (s .size) m j))) (λ v. Ok (t, v)) ≡ Err f → _≡_ {A = Result ℕ Fault} (Ok t) (Err f)
-    divided t (Ok n) k p e = ok-err e
-    divided t (Err g) k p e = ok-err (sym p)
-
-    go : (r : Result ℕ Fault) → totalOf F s m j ≡ r → andThen {B = ℕ × ℕ} r (λ t. andThen (divisorOf F (s .size) m j) (λ v. Ok (t, v))) ≡ Err f → r ≡ Err f
-    go (Ok t) p e = let a = total-ok F s m j t p .0 in divided t (admitted (partsOf F (s .size) m) j) (a .0) (a .1) e
-    go (Err g) p e = ap Err (err-same e)
-
-pub part-ok : (F : Formula) (s : Seen) (m j t v : ℕ) → partOf F s m j ≡ Ok (t, v) → (totalOf F s m j ≡ Ok t) × (v ≡ F .divisor (s .size) m j)
-part-ok F s m j t v e =
-    let p = then-ok (totalOf F s m j) (λ t. andThen (divisorOf F (s .size) m j) (λ v. Ok (t, v))) (t, v) e in
-    let q = then-ok (divisorOf F (s .size) m j) (λ w. Ok (p .0, w)) (t, v) (p .2) in
-    let d = then-ok (admitted (partsOf F (s .size) m) j) (λ _. Ok (F .divisor (s .size) m j)) (q .0) (q .1) in
-    let h : (p .0, q .0) ≡ (t, v) = ok-same (q .2) in
-    (p .1 ∙ ap (λ (z : ℕ × ℕ). Ok (z .0)) h, sym (ap (λ (z : ℕ × ℕ). z .1) h) ∙ sym (ok-same (d .2)))
-
 -- ---- the laws of totals, from those of roots
 -- a total, by its length, its reach and its roots
 abbrev totalBy : Formula → ℕ → ℕ → ℕ → ℕ → (ℕ → ℤ) → Result ℕ Fault
 totalBy F m j n b f = andThen (admitted (partsOf F n m) j) (λ _. cond (F .reaches n b m) (gated f (F .terms n m j)) (Err (fault ReachTooLarge Series 0)))
 
 module _ (F : Formula) (s t : Seen) (m j : ℕ) (long : t .size ≡ s .size) where
-  pub rooted-local : t .bound ≡ s .bound → (Accepted F (s .size) m j → (n : ℕ) → n < F .terms (s .size) m j → F .root t m j n ≡ F .root s m j n) → totalOf F t m j ≡ totalOf F s m j
+  pub rooted-local : t .bound ≡ s .bound → (IsPart F (s .size) m j → (n : ℕ) → n < F .terms (s .size) m j → F .root t m j n ≡ F .root s m j n) → totalOf F t m j ≡ totalOf F s m j
   rooted-local far same =
       ap (λ n. totalBy F m j n (t .bound) (F .root t m j)) long ∙ ap (λ b. totalBy F m j (s .size) b (F .root t m j)) far ∙ go (admitted (partsOf F (s .size) m) j) refl
     where
@@ -101,13 +81,13 @@ module _ (F : Formula) (s t : Seen) (m j : ℕ) (long : t .size ≡ s .size) whe
       go (Ok k) e = ap (λ (y : Result ℕ Fault). cond (F .reaches (s .size) (s .bound) m) y (Err (fault ReachTooLarge Series 0))) (gated-cong (F .root s m j) (F .root t m j) (F .terms (s .size) m j) (same (k, e)))
       go (Err f) e = refl
 
-  pub rooted-scaled : (c : ℤ) (T U : ℕ) → (Accepted F (s .size) m j → (n : ℕ) → n < F .terms (s .size) m j → F .root t m j n ≡ c *ℤ F .root s m j n) → totalOf F s m j ≡ Ok T → totalOf F t m j ≡ Ok U → U ≡ square c * T
+  pub rooted-scaled : (c : ℤ) (T U : ℕ) → (IsPart F (s .size) m j → (n : ℕ) → n < F .terms (s .size) m j → F .root t m j n ≡ c *ℤ F .root s m j n) → totalOf F s m j ≡ Ok T → totalOf F t m j ≡ Ok U → U ≡ square c * T
   rooted-scaled c T U same e e′ =
       let p = total-ok F s m j T e in
       let q = total-ok F t m j U e′ in
       gated-scaled (F .root s m j) (F .root t m j) (F .terms (s .size) m j) c T U (same (p .0)) (p .1) (ap (λ n. gated (F .root t m j) (F .terms n m j)) (sym long) ∙ q .1)
 
-  pub rooted-mirrored : t .bound ≡ s .bound → (Accepted F (s .size) m j → SameTotal (gated (F .root s m j) (F .terms (s .size) m j)) (gated (F .root t m j) (F .terms (s .size) m j))) → SameTotal (totalOf F s m j) (totalOf F t m j)
+  pub rooted-mirrored : t .bound ≡ s .bound → (IsPart F (s .size) m j → SameTotal (gated (F .root s m j) (F .terms (s .size) m j)) (gated (F .root t m j) (F .terms (s .size) m j))) → SameTotal (totalOf F s m j) (totalOf F t m j)
   rooted-mirrored far same =
       subst (λ r. SameTotal (totalOf F s m j) r) (sym (ap (λ n. totalBy F m j n (t .bound) (F .root t m j)) long ∙ ap (λ b. totalBy F m j (s .size) b (F .root t m j)) far)) (go (admitted (partsOf F (s .size) m) j) refl)
     where

@@ -20,43 +20,43 @@ use Rattle.series.specs.declared.fault.Fault.{Fault}
 use Rattle.series.specs.declared.fault.Cause.the-variants.{TotalTooLarge}
 use Rattle.series.specs.declared.fault.Layer.the-variants.{Statistic}
 use Rattle.series.specs.Faults.{fault}
-use Rattle.statistics.specs.Totals.{word, outmost, fitting, grown, stepped, totalFrom, gated, squares, Inside, FirstBeyond, Totalled, TotalLaws}
+use Rattle.statistics.specs.Totals.{largestWord, largestRoot, fitting, grown, stepped, totalFrom, gated, squares, Inside, FirstBeyond, Totalled, TotalLaws}
 use Rattle.statistics.specs.Model.{SameTotal}
 
 -- ---- one step
-pub fitting-some : (n u : ℕ) → fitting n ≡ Some u → (u ≡ n) × (n ≤ word)
-fitting-some n u = go (leb n word) refl
+pub fitting-some : (n u : ℕ) → fitting n ≡ Some u → (u ≡ n) × (n ≤ largestWord)
+fitting-some n u = go (leb n largestWord) refl
   where
-    go : (b : Bool) → leb n word ≡ b → cond b (Some n) None ≡ Some u → (u ≡ n) × (n ≤ word)
-    go true h e = (cc, leb-true n word h)
+    go : (b : Bool) → leb n largestWord ≡ b → cond b (Some n) None ≡ Some u → (u ≡ n) × (n ≤ largestWord)
+    go true h e = (cc, leb-true n largestWord h)
     go false h e = let z : _≡_ {A = ℕ} 0 1 = cc in absurd (omega arith)
 
-pub fitting-none : (n : ℕ) → fitting n ≡ None → word < n
-fitting-none n = go (leb n word) refl
+pub fitting-none : (n : ℕ) → fitting n ≡ None → largestWord < n
+fitting-none n = go (leb n largestWord) refl
   where
-    go : (b : Bool) → leb n word ≡ b → cond b (Some n) None ≡ None → word < n
+    go : (b : Bool) → leb n largestWord ≡ b → cond b (Some n) None ≡ None → largestWord < n
     go true h e = let z : _≡_ {A = ℕ} 0 1 = cc in absurd (omega arith)
-    go false h e = leb-false n word h
+    go false h e = leb-false n largestWord h
 
-pub fits-word : (n : ℕ) → n ≤ word → Some n ≡ fitting n
-fits-word n h = sym (cond-true (leb n word) _ _ (le-leb n word h))
+pub fits-word : (n : ℕ) → n ≤ largestWord → Some n ≡ fitting n
+fits-word n h = sym (cond-true (leb n largestWord) _ _ (le-leb n largestWord h))
 
-pub past-word : (n : ℕ) → word < n → None ≡ fitting n
-past-word n h = sym (cond-false (leb n word) _ _ (lt-leb n word h))
+pub past-word : (n : ℕ) → largestWord < n → None ≡ fitting n
+past-word n h = sym (cond-false (leb n largestWord) _ _ (lt-leb n largestWord h))
 
-pub grown-some : (t u : ℕ) (r : ℤ) → grown t r ≡ Some u → (natAbs r ≤ outmost) × (u ≡ t + square r) × (u ≤ word)
-grown-some t u r = go (leb (natAbs r) outmost) refl
+pub grown-some : (t u : ℕ) (r : ℤ) → grown t r ≡ Some u → (natAbs r ≤ largestRoot) × (u ≡ t + square r) × (u ≤ largestWord)
+grown-some t u r = go (leb (natAbs r) largestRoot) refl
   where
-    go : (b : Bool) → leb (natAbs r) outmost ≡ b → cond b (fitting (t + square r)) None ≡ Some u → (natAbs r ≤ outmost) × (u ≡ t + square r) × (u ≤ word)
-    go true h e = let p = fitting-some (t + square r) u e in (leb-true (natAbs r) outmost h, p .0, omega (arith, p .0, p .1))
+    go : (b : Bool) → leb (natAbs r) largestRoot ≡ b → cond b (fitting (t + square r)) None ≡ Some u → (natAbs r ≤ largestRoot) × (u ≡ t + square r) × (u ≤ largestWord)
+    go true h e = let p = fitting-some (t + square r) u e in (leb-true (natAbs r) largestRoot h, p .0, omega (arith, p .0, p .1))
     go false h e = let z : _≡_ {A = ℕ} 0 1 = cc in absurd (omega arith)
 
-pub grown-none : (t : ℕ) (r : ℤ) → grown t r ≡ None → (outmost < natAbs r) ⊎ (word < t + square r)
-grown-none t r = go (leb (natAbs r) outmost) refl
+pub grown-none : (t : ℕ) (r : ℤ) → grown t r ≡ None → (largestRoot < natAbs r) ⊎ (largestWord < t + square r)
+grown-none t r = go (leb (natAbs r) largestRoot) refl
   where
-    go : (b : Bool) → leb (natAbs r) outmost ≡ b → cond b (fitting (t + square r)) None ≡ None → (outmost < natAbs r) ⊎ (word < t + square r)
+    go : (b : Bool) → leb (natAbs r) largestRoot ≡ b → cond b (fitting (t + square r)) None ≡ None → (largestRoot < natAbs r) ⊎ (largestWord < t + square r)
     go true h e = inr (fitting-none (t + square r) e)
-    go false h e = inl (leb-false (natAbs r) outmost h)
+    go false h e = inl (leb-false (natAbs r) largestRoot h)
 
 -- ---- a loop over the roots: what is left gives the answer
 module _ (f : ℕ → ℤ) where
@@ -70,22 +70,22 @@ module _ (f : ℕ → ℤ) where
   total-all k n t h = let none : k - n ≡ 0 = omega arith in ap (totalFrom f n t) none
 
 -- ---- what it is
-first : (f : ℕ → ℤ) (n t : ℕ) → Inside f n → t ≡ squares n f → t ≤ word → (outmost < natAbs (f n)) ⊎ (word < t + square (f n)) → FirstBeyond f n
+first : (f : ℕ → ℤ) (n t : ℕ) → Inside f n → t ≡ squares n f → t ≤ largestWord → (largestRoot < natAbs (f n)) ⊎ (largestWord < t + square (f n)) → FirstBeyond f n
 first f n t i e l p = record {
   inside = i;
   fits = omega arith;
   passes = ⊎-elim inl (λ h. inr (omega (arith, sumN-more n (λ k. square (f k))))) p;
 }
 
-total-from : (f : ℕ → ℤ) (k n t left : ℕ) → n + left ≡ k → Inside f n → t ≡ squares n f → t ≤ word → Totalled f k (totalFrom f n t left)
+total-from : (f : ℕ → ℤ) (k n t left : ℕ) → n + left ≡ k → Inside f n → t ≡ squares n f → t ≤ largestWord → Totalled f k (totalFrom f n t left)
 total-from f k n t zero q i e l = let p : n ≡ k = omega arith in (e ∙ ap (λ j. squares j f) p, λ j h. i j (omega arith), l)
 total-from f k n t (suc left) q i e l =
     go (grown t (f n)) refl (λ u a b c. total-from f k (n + 1) u left (omega arith) a b c)
   where
-    go : (o : Option ℕ) → grown t (f n) ≡ o → ((u : ℕ) → Inside f (n + 1) → u ≡ squares (n + 1) f → u ≤ word → Totalled f k (totalFrom f (n + 1) u left)) → Totalled f k (stepped n (λ u. totalFrom f (n + 1) u left) o)
+    go : (o : Option ℕ) → grown t (f n) ≡ o → ((u : ℕ) → Inside f (n + 1) → u ≡ squares (n + 1) f → u ≤ largestWord → Totalled f k (totalFrom f (n + 1) u left)) → Totalled f k (stepped n (λ u. totalFrom f (n + 1) u left) o)
     go (Some u) h next =
         let p = grown-some t u (f n) h in
-        next u (below-more (λ j. natAbs (f j) ≤ outmost) n i (p .0)) (omega (arith, p .1, sumN-more n (λ j. square (f j)))) (p .2)
+        next u (below-more (λ j. natAbs (f j) ≤ largestRoot) n i (p .0)) (omega (arith, p .1, sumN-more n (λ j. square (f j)))) (p .2)
     go None h next = (n, omega arith, refl, first f n t i e l (grown-none t (f n) h))
 
 pub gated-is : (f : ℕ → ℤ) (k : ℕ) → Totalled f k (gated f k)
@@ -99,7 +99,7 @@ sum-mono n k f h = omega (arith, sumN-split n (k - n) f, ap (λ j. sumN j f) (ba
     back n k h = omega arith
 
 -- no term passes where all are inside and the sum fits
-no-first : {P : Type 0} (f : ℕ → ℤ) (n k : ℕ) → n < k → Inside f k → squares k f ≤ word → FirstBeyond f n → P
+no-first : {P : Type 0} (f : ℕ → ℤ) (n k : ℕ) → n < k → Inside f k → squares k f ≤ largestWord → FirstBeyond f n → P
 no-first f n k l i h b = ⊎-elim (λ p. absurd (omega (arith, i n l))) (λ p. absurd (omega (arith, sum-mono (n + 1) k (λ j. square (f j)) (omega arith)))) (b .passes)
 
 one-first : (f : ℕ → ℤ) (m n : ℕ) → FirstBeyond f m → FirstBeyond f n → m ≡ n
@@ -140,7 +140,7 @@ gated-cong f g k h = go 0 0 k (λ n _ l. h n (omega arith))
 pub gated-same : (f g : ℕ → ℤ) (k : ℕ) → (Inside f k → Inside g k) → (Inside g k → Inside f k) → squares k g ≡ squares k f → SameTotal (gated f k) (gated g k)
 gated-same f g k to back e = go (gated f k) (gated g k) (gated-is f k) (gated-is g k)
   where
-    clash : {P : Type 0} (h : ℕ → ℤ) (x : Fault) → Inside h k → squares k h ≤ word → Totalled h k (Err x) → P
+    clash : {P : Type 0} (h : ℕ → ℤ) (x : Fault) → Inside h k → squares k h ≤ largestWord → Totalled h k (Err x) → P
     clash h x i l p = no-first h (p .0) k (p .1) i l (p .3)
 
     go : (r q : Result ℕ Fault) → Totalled f k r → Totalled g k q → SameTotal r q

@@ -9,14 +9,14 @@ use Rattle.std.specs.declared.result.Result.{Result}
 use Rattle.std.specs.declared.result.Result.the-variants.{Ok, Err}
 use Rattle.algebra.specs.Squares.{square}
 use Rattle.series.specs.declared.fault.Fault.{Fault}
-use Rattle.series.specs.declared.fault.Cause.the-variants.{SeriesTooLong, FactorNotTaken, TooFewSamples, NoSuchPart, TotalTooLarge, ReachTooLarge}
+use Rattle.series.specs.declared.fault.Cause.the-variants.{SeriesTooLong, FactorNotTaken, TooFewSamples, NoSuchPart, ReachTooLarge}
 use Rattle.series.specs.declared.fault.Layer.the-variants.{Series, Statistic}
 use Rattle.series.specs.Faults.{fault, andThen}
 use Rattle.series.specs.Limits.{fullest}
 use Rattle.series.specs.Seen.{Seen, Alike, RampOf, DriftOf, ReversedOf}
 use Rattle.statistics.specs.declared.blindness.Blindness.{Blindness}
 use Rattle.statistics.specs.declared.blindness.Blindness.the-variants.{Drifts}
-use Rattle.statistics.specs.Totals.{gated}
+use Rattle.statistics.specs.Totals.{gated, Totalled}
 
 -- A formula. N is a length, m a factor, j a part and R a reach.
 pub record Formula : Type 0 where
@@ -65,8 +65,8 @@ abbrev pub partOf : Formula → Seen → ℕ → ℕ → Result (ℕ × ℕ) Fau
 partOf F s m j = andThen (totalOf F s m j) (λ t. andThen (divisorOf F (s .size) m j) (λ v. Ok (t, v)))
 
 -- j is a part of N samples at the factor m
-abbrev pub Accepted : Formula → ℕ → ℕ → ℕ → Type 0
-Accepted F n m j = (k : ℕ) × (admitted (partsOf F n m) j ≡ Ok k)
+abbrev pub IsPart : Formula → ℕ → ℕ → ℕ → Type 0
+IsPart F n m j = (k : ℕ) × (admitted (partsOf F n m) j ≡ Ok k)
 
 -- ---- when a factor is refused, and a total
 -- the factor m at N samples: the first of three tests that fails gives the refusal
@@ -75,23 +75,26 @@ pub record Suits (F : Formula) (n m : ℕ) : Type 0 where
   pub taken : F .takes m ≡ true
   pub enough : F .enough n m ≡ true
 
-abbrev pub PartsAnswered : Formula → ℕ → ℕ → Result ℕ Fault → Type 0
-PartsAnswered F n m (Ok k) = Suits F n m × (k ≡ F .parts n m)
-PartsAnswered F n m (Err f) =
+abbrev pub FactorAnswered : Formula → ℕ → ℕ → Result ℕ Fault → Type 0
+FactorAnswered F n m (Ok k) = Suits F n m × (k ≡ F .parts n m)
+FactorAnswered F n m (Err f) =
     ((fullest < n) × (f ≡ fault SeriesTooLong Statistic 0))
     ⊎ ((n ≤ fullest) × (F .takes m ≡ false) × (f ≡ fault FactorNotTaken Statistic 0))
     ⊎ ((n ≤ fullest) × (F .takes m ≡ true) × (F .enough n m ≡ false) × (f ≡ fault TooFewSamples Statistic 0))
 
--- an accepted part leaves two refusals of its total: a layer's reach, or a term where a root or the sum is too large
-abbrev pub SizeOnly : Formula → Seen → ℕ → ℕ → Fault → Type 0
-SizeOnly F s m j f =
-    ((F .reaches (s .size) (s .bound) m ≡ false) × (f ≡ fault ReachTooLarge Series 0))
-    ⊎ ((F .reaches (s .size) (s .bound) m ≡ true) × ((n : ℕ) × (n < F .terms (s .size) m j) × (f ≡ fault TotalTooLarge Statistic n)))
+-- the total of an accepted part: a layer that does not keep its reach refuses it; else it is the sum of all squares, or is refused at the first term that passes
+abbrev pub PartTotalled : Formula → Seen → ℕ → ℕ → Result ℕ Fault → Type 0
+PartTotalled F s m j r =
+    ((F .reaches (s .size) (s .bound) m ≡ false) × (r ≡ Err (fault ReachTooLarge Series 0)))
+    ⊎ ((F .reaches (s .size) (s .bound) m ≡ true) × Totalled (F .root s m j) (F .terms (s .size) m j) r)
 
 pub record RefusalLaws : Type 0 where
-  pub parts : (F : Formula) (n m : ℕ) → PartsAnswered F n m (partsOf F n m)
+  pub parts : (F : Formula) (n m : ℕ) → FactorAnswered F n m (partsOf F n m)
+  pub refused : (F : Formula) (n m j : ℕ) (f : Fault) → partsOf F n m ≡ Err f → admitted (partsOf F n m) j ≡ Err f
   pub no-part : (F : Formula) (n m j k : ℕ) → partsOf F n m ≡ Ok k → (j ≡ 0) ⊎ (k < j) → admitted (partsOf F n m) j ≡ Err (fault NoSuchPart Statistic j)
-  pub total : (F : Formula) (s : Seen) (m j : ℕ) (f : Fault) → Accepted F (s .size) m j → totalOf F s m j ≡ Err f → SizeOnly F s m j f
+  pub a-part : (F : Formula) (n m j k : ℕ) → partsOf F n m ≡ Ok k → 1 ≤ j → j ≤ k → admitted (partsOf F n m) j ≡ Ok k
+  pub not-admitted : (F : Formula) (s : Seen) (m j : ℕ) (f : Fault) → admitted (partsOf F (s .size) m) j ≡ Err f → totalOf F s m j ≡ Err f
+  pub total : (F : Formula) (s : Seen) (m j : ℕ) → IsPart F (s .size) m j → PartTotalled F s m j (totalOf F s m j)
 
 -- equal totals, or refusals of the same cause
 abbrev pub SameTotal : Result ℕ Fault → Result ℕ Fault → Type 0
@@ -103,10 +106,8 @@ SameTotal (Err f) (Err g) = g .cause ≡ f .cause
 -- A statistic: a formula that keeps these laws.
 pub record Model : Type 0 where
   pub formula : Formula
-  -- there is a part wherever a factor is accepted
-  pub some-part : (n m k : ℕ) → partsOf formula n m ≡ Ok k → 1 ≤ k
   -- a divisor is a word, and not 0
-  pub divisible : (n m j : ℕ) → Accepted formula n m j → (1 ≤ formula .divisor n m j) × (formula .divisor n m j < 2 ^ 64)
+  pub divisible : (n m j : ℕ) → IsPart formula n m j → (1 ≤ formula .divisor n m j) × (formula .divisor n m j < 2 ^ 64)
   -- a total depends on the series alone
   pub local : (s t : Seen) (m j : ℕ) → Alike s t → totalOf formula t m j ≡ totalOf formula s m j
   -- it scales with the samples, and is blind to where they start and to a ramp,

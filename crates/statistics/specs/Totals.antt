@@ -2,7 +2,7 @@
 use mathlib.Core.Path.{_≡_}
 use mathlib.Core.Logic.{_⊎_}
 use mathlib.Core.Bool.{cond}
-use Prim.Native.Nat.{ℕ, zero, suc, _+_, _≤_, _<_}
+use Prim.Native.Nat.{ℕ, zero, suc, _+_, _-_, _^_, _≤_, _<_}
 use lib.Dec.{leb}
 use lib.IntN.{ℤ, natAbs}
 use Rattle.std.specs.declared.option.Option.{Option}
@@ -17,19 +17,19 @@ use Rattle.series.specs.declared.fault.Layer.the-variants.{Statistic}
 use Rattle.series.specs.Faults.{fault}
 
 -- the largest word, and the largest size of a root
-abbrev pub word : ℕ
-word = 18446744073709551615
+abbrev pub largestWord : ℕ
+largestWord = 2 ^ 64 - 1
 
-abbrev pub outmost : ℕ
-outmost = 4294967295
+abbrev pub largestRoot : ℕ
+largestRoot = 2 ^ 32 - 1
 
 -- a number that a word holds
 abbrev pub fitting : ℕ → Option ℕ
-fitting n = cond (leb n word) (Some n) None
+fitting n = cond (leb n largestWord) (Some n) None
 
 -- the total t with the square of a root more
 abbrev pub grown : ℕ → ℤ → Option ℕ
-grown t r = cond (leb (natAbs r) outmost) (fitting (t + square r)) None
+grown t r = cond (leb (natAbs r) largestRoot) (fitting (t + square r)) None
 
 -- on from a step, or a refusal with a place
 abbrev pub stepped : ℕ → (ℕ → Result ℕ Fault) → Option ℕ → Result ℕ Fault
@@ -50,17 +50,17 @@ abbrev pub squares : ℕ → (ℕ → ℤ) → ℕ
 squares k f = sumN k (λ n. square (f n))
 
 abbrev pub Inside : (ℕ → ℤ) → ℕ → Type 0
-Inside f k = (n : ℕ) → n < k → natAbs (f n) ≤ outmost
+Inside f k = (n : ℕ) → n < k → natAbs (f n) ≤ largestRoot
 
 -- the term n is the first that is outside, or that lifts the sum of the squares above a word
 pub record FirstBeyond (f : ℕ → ℤ) (n : ℕ) : Type 0 where
   pub inside : Inside f n
-  pub fits : squares n f ≤ word
-  pub passes : (outmost < natAbs (f n)) ⊎ (word < squares (n + 1) f)
+  pub fits : squares n f ≤ largestWord
+  pub passes : (largestRoot < natAbs (f n)) ⊎ (largestWord < squares (n + 1) f)
 
 -- the sum of all squares where every root is inside and the sum fits; else the number of the first term where that ends
 abbrev pub Totalled : (ℕ → ℤ) → ℕ → Result ℕ Fault → Type 0
-Totalled f k (Ok t) = (t ≡ squares k f) × Inside f k × (t ≤ word)
+Totalled f k (Ok t) = (t ≡ squares k f) × Inside f k × (t ≤ largestWord)
 Totalled f k (Err e) = (n : ℕ) × (n < k) × (e ≡ fault TotalTooLarge Statistic n) × FirstBeyond f n
 
 pub record TotalLaws : Type 0 where

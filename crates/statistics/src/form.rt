@@ -15,7 +15,7 @@ pub trait Statistic {
 
     ghost model: { Model };
 
-    /// The constant.
+    /// The formula's blindness; each statistic's own contract adds that its constant is this.
     fn blind_to() -> Blindness
         ensures { λ r. ⌜ r ≡ model .formula .blindness ⌝ };
 

@@ -2,7 +2,7 @@
 ghost use mathlib.Core.Path.{_≡_};
 ghost use Prim.Native.Nat.{ℕ, _+_, _*_, _/_, _<_, _≤_};
 ghost use Rattle.std.specs.declared.result.Result.the-variants.{Ok};
-ghost use Rattle.statistics.specs.Model.{Model, partsOf, Accepted};
+ghost use Rattle.statistics.specs.Model.{Model, partsOf, IsPart};
 ghost use Rattle.statistics.specs.Totals.{fitting};
 ghost use Rattle.statistics.specs.ReadOut.{share, readStep, readFrom, readOut, ReadNear};
 use crate::form::Statistic;
@@ -61,7 +61,7 @@ fn add_share<T: Statistic, S: Series>(
     number: u64,
     sum: u64,
 ) -> Result<u64, Fault>
-    requires { ⌜ Accepted (T·Statistic .model .formula) (seen (now s) .size) factor number ⌝ }
+    requires { ⌜ IsPart (T·Statistic .model .formula) (seen (now s) .size) factor number ⌝ }
     ensures { λ r. ⌜ r ≡ readStep (T·Statistic .model .formula) (seen (now (s .entry))) factor number sum ⌝ }
 {
     let (total, divisor) = part::<T, S>(s, factor, number)?;

@@ -29,6 +29,7 @@ fn enough(length: usize, factor: u64) -> bool
     factor < (length - length / 2) as u64
 }
 
+// a - 2b + c
 fn bend(a: i64, b: i64, c: i64) -> i64
     requires { ⌜ natAbs a ≤ 2 ^ 36 ⌝ ∗ ⌜ natAbs b ≤ 2 ^ 36 ⌝ ∗ ⌜ natAbs c ≤ 2 ^ 36 ⌝ }
     ensures { λ r. ⌜ r ≡ (a -ℤ pos 2 *ℤ b) +ℤ c ⌝ }

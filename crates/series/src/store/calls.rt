@@ -3,7 +3,7 @@ ghost use mathlib.Core.Path.{_≡_};
 ghost use mathlib.Core.List.{[]};
 ghost use Rattle.std.specs.Vec.{made};
 ghost use Rattle.series.specs.Listed.{listed, held, held-lawful};
-ghost use Rattle.series.specs.Seen.{all, sampleOf};
+ghost use Rattle.series.specs.Seen.{all};
 ghost use Rattle.series.specs.Stored.{Pushed, Popped};
 use crate::fault::Cause;
 use crate::fault::Fault;

@@ -1,13 +1,13 @@
 use native.Mathlib.Omega.{arith}
 use mathlib.Core.Path.{_∙_, sym, ap}
-use Rattle.job_line.specs.Bytes.{isDigit, held}
+use Rattle.job_line.specs.Bytes.{isDigit, fits64}
 use Rattle.job_line.proofs.Runs.{run-more, run-stops, run-all, decimal-more, decimal-all}
 use Rattle.job_line.proofs.tokens.digits.Needs as need
 
 pub loop-end-again : need.loop-end-again
 loop-end-again c = (
   omega arith,
-  (c .with-digit-value .ensures _ (c .loop-end .inv .1) ∙ sym (ap held (decimal-more _ _ _ (c .loop-end .inv .0) (omega arith)))),
+  (c .with-digit-value .ensures _ (c .loop-end .inv .1) ∙ sym (ap fits64 (decimal-more _ _ _ (c .loop-end .inv .0) (omega arith)))),
   run-more isDigit _ _ _ (omega arith) (cc) (c .loop-end .inv .2),
 )
 
