@@ -1,5 +1,7 @@
 //! Lemmas over ℤ and ℕ: a ring normaliser, finite sums, squares, differences, windows, trends and mirrors.
 //! The functions have no work to do: the contract of each is a theorem, which the check proves.
+#![tactic(auto)]
+
 ghost use Rattle.algebra.specs.Claims.{SumLaws, SquareLaws, SecondLaws, StepLaws, WindowLaws, TrendLaws, OddMirrorLaws, EvenMirrorLaws};
 
 /// Congruence, split, one more term, reversal, scaling and sums of sums.

@@ -1,3 +1,5 @@
 //! The bench: an open run that takes samples, and a released run that takes none.
+#![tactic(auto)]
+
 pub mod open_run;
 pub mod released_run;

@@ -1,4 +1,6 @@
 // Works the stored jobs and packed samples, and prints what each answers.
+#![tactic(auto)]
+
 use job_text::answer::Answer;
 use job_text::report::print_out;
 use job_text::whole::work_text;

@@ -1,4 +1,6 @@
 // The job program: a text on standard input, its answers on standard output.
+#![tactic(auto)]
+
 ghost use Rattle.std.specs.Prelude.{◌≤◌, length, IfOk};
 
 use job_text::report::print_out;

@@ -1,4 +1,6 @@
 //! One line of a job: its grammar and its parser; and the lines of a text.
+#![tactic(auto)]
+
 pub mod lines;
 pub mod text;
 pub mod tokens;

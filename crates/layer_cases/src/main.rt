@@ -1,4 +1,6 @@
 // Makes every layer over series of many lengths and reaches, and prints what each answers.
+#![tactic(auto)]
+
 mod cases;
 mod nested;
 mod probe;

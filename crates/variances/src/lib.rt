@@ -1,4 +1,6 @@
 //! The variances, each a statistic of any series.
+#![tactic(auto)]
+
 pub mod avar;
 pub mod name;
 
