@@ -6,12 +6,12 @@ use Rattle.job_line.proofs.tokens.digits.Goals as goal
 pub loop-end-preserved : goal.loop-end-preserved
 loop-end-preserved c = (
   omega arith,
-  (c.with-digit-value.ensures _ c.loop-end.invariant.1 ∙ sym (ap fits64 (decimal_more _ _ _ c.loop-end.invariant.0 (omega arith)))),
+  (c.with_digit-value.ensures _ c.loop-end.invariant.1 ∙ sym (ap fits64 (decimal_more _ _ _ c.loop-end.invariant.0 (omega arith)))),
   run_more is_digit _ _ _ (omega arith) (cc) c.loop-end.invariant.2,
 )
 
-pub returns-else-is-digit : goal.returns-else-is-digit
-returns-else-is-digit c =
+pub returns-else-is_digit : goal.returns-else-is_digit
+returns-else-is_digit c =
     let e = run_stops is_digit c.args.line.now c.args.place _ (omega arith) (cc) c.loop-end.invariant.2 in
     record { value = decimal_all _ _ _ _ c.loop-end.invariant.1 e; after = e }
 

@@ -4,16 +4,16 @@ use Rattle.statistics.proofs.Formulas.{part_stands}
 use Rattle.statistics.proofs.ReadOuts.{read_next, read_all}
 use Rattle.statistics.proofs.read_out.sum_of_shares.Goals as goal
 
-pub add-share-requires : goal.add-share-requires
-add-share-requires g c = (c.args.parts, part_stands g.T.Statistic.model.formula (g.S.Series.seen c.args.s.now).size c.args.factor (c.loop-before.before + 1) c.args.parts c.requires (omega arith) (omega arith))
+pub add_share-requires : goal.add_share-requires
+add_share-requires g c = (c.args.parts, part_stands g.T.Statistic.model.formula (g.S.Series.seen c.args.s.now).size c.args.factor (c.loop-before.before + 1) c.args.parts c.requires (omega arith) (omega arith))
 
-pub returns-in-err-sum : goal.returns-in-err-sum
-returns-in-err-sum g c =
+pub returns-in_err-sum : goal.returns-in_err-sum
+returns-in_err-sum g c =
     let p = err_from_is_err_and c.from-residual.result c.from-residual.ensures.1 in
-    rw (p.1, p.2) (sym (read_next g.T.Statistic.model.formula (g.S.Series.seen c.args.s.now) c.args.factor c.args.parts c.loop-before.before c.loop-before.sum (Err c.in-err-sum.field-0.0) (omega arith) c.in-err-sum.ensures) ∙ c.loop-before.invariant)
+    rw (p.1, p.2) (sym (read_next g.T.Statistic.model.formula (g.S.Series.seen c.args.s.now) c.args.factor c.args.parts c.loop-before.before c.loop-before.sum (Err c.in_err-sum.field-0.0) (omega arith) c.in_err-sum.ensures) ∙ c.loop-before.invariant)
 
 pub loop-before-preserved : goal.loop-before-preserved
-loop-before-preserved g c = sym (read_next g.T.Statistic.model.formula (g.S.Series.seen c.args.s.now) c.args.factor c.args.parts c.loop-before.before c.loop-before.sum (Ok c.in-ok-sum.sum) (omega arith) c.in-ok-sum.ensures) ∙ c.loop-before.invariant
+loop-before-preserved g c = sym (read_next g.T.Statistic.model.formula (g.S.Series.seen c.args.s.now) c.args.factor c.args.parts c.loop-before.before c.loop-before.sum (Ok c.in_ok-sum.sum) (omega arith) c.in_ok-sum.ensures) ∙ c.loop-before.invariant
 
 pub returns : goal.returns
 returns g c = sym (read_all g.T.Statistic.model.formula (g.S.Series.seen c.args.s.now) c.args.factor c.args.parts c.loop-before.before c.loop-before.sum (omega arith)) ∙ c.loop-before.invariant

@@ -10,17 +10,17 @@ pub returns-in-None : goal.returns-in-None
 returns-in-None g c =
     let s = g.S.Series.seen c.args.s.now in
     let l = c.loop-n in
-    let x = c.in-ok-root.field-0 in
+    let x = c.in_ok-root.field-0 in
     let fits : SFits w64 x = search rules in
-    total_step (second (samples s) c.args.gap) (s.size - 2 * c.args.gap) l.n l.total (to_z w64 (of_z w64 x)) None (omega arith) (to_z-of_z w64 x fits ∙ ok_same c.in-ok-root.ensures) c.in-None.ensures ∙ l.invariant
+    total_step (second (samples s) c.args.gap) (s.size - 2 * c.args.gap) l.n l.total (to_z w64 (of_z w64 x)) None (omega arith) (to_z-of_z w64 x fits ∙ ok_same c.in_ok-root.ensures) c.in-None.ensures ∙ l.invariant
 
 pub loop-n-preserved : goal.loop-n-preserved
 loop-n-preserved g c =
     let s = g.S.Series.seen c.args.s.now in
     let l = c.loop-n in
-    let x = c.in-ok-root.field-0 in
+    let x = c.in_ok-root.field-0 in
     let fits : SFits w64 x = search rules in
-    total_step (second (samples s) c.args.gap) (s.size - 2 * c.args.gap) l.n l.total (to_z w64 (of_z w64 x)) (Some c.in-Some.more) (omega arith) (to_z-of_z w64 x fits ∙ ok_same c.in-ok-root.ensures) c.in-Some.ensures ∙ l.invariant
+    total_step (second (samples s) c.args.gap) (s.size - 2 * c.args.gap) l.n l.total (to_z w64 (of_z w64 x)) (Some c.in-Some.more) (omega arith) (to_z-of_z w64 x fits ∙ ok_same c.in_ok-root.ensures) c.in-Some.ensures ∙ l.invariant
 
 pub returns : goal.returns
 returns g c =

@@ -9,7 +9,7 @@ tilt-requires g c =
     let d = c.args.self.now in
     let s = g.S.Series.seen d.of in
     let l = one g.S.Series.laws d.of in
-    let p = products_within d.scale d.delta d.reach d.most d.under s d.serves l c.args.place c.in-ok-below.below (omega arith) (omega arith) c.in-ok-below.ensures in
-    let f : SFits w64 c.in-ok-below.below = search rules in
+    let p = products_within d.scale d.delta d.reach d.most d.under s d.serves l c.args.place c.in_ok-below.below (omega arith) (omega arith) c.in_ok-below.ensures in
+    let f : SFits w64 c.in_ok-below.below = search rules in
     let h : SFits w64 d.delta = search rules in
     simp to_z-of_z (p.0, (p.1, (p.2, p.3)))
