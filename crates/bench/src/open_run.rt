@@ -61,14 +61,14 @@ impl OpenRun {
 
     /// The total and the divisor of a part.
     pub fn part<T: Statistic>(&self, factor: u64, number: u64) -> Result<(u64, u64), Fault>
-        ensures { PartAnswered (held_open self.now) T.Statistic.model factor number result (held_open self.now) }
+        ensures { PartAnswered (held_open self.now) T.model factor number result (held_open self.now) }
     {
         part::<T, Store>(&self.store, factor, number)
     }
 
     /// The read-out of a factor.
     pub fn read_out<T: Statistic>(&self, factor: u64) -> Result<u64, Fault>
-        ensures { ReadAnswered (held_open self.now) T.Statistic.model factor result (held_open self.now) }
+        ensures { ReadAnswered (held_open self.now) T.model factor result (held_open self.now) }
     {
         read_out::<T, Store>(&self.store, factor)
     }

@@ -28,14 +28,14 @@ impl ReleasedRun {
 
     /// The total and the divisor of a part.
     pub fn part<T: Statistic>(&self, factor: u64, number: u64) -> Result<(u64, u64), Fault>
-        ensures { PartAnswered (held_released self.now) T.Statistic.model factor number result (held_released self.now) }
+        ensures { PartAnswered (held_released self.now) T.model factor number result (held_released self.now) }
     {
         part::<T, Store>(&self.store, factor, number)
     }
 
     /// The read-out of a factor.
     pub fn read_out<T: Statistic>(&self, factor: u64) -> Result<u64, Fault>
-        ensures { ReadAnswered (held_released self.now) T.Statistic.model factor result (held_released self.now) }
+        ensures { ReadAnswered (held_released self.now) T.model factor result (held_released self.now) }
     {
         read_out::<T, Store>(&self.store, factor)
     }

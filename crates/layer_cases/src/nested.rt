@@ -44,7 +44,7 @@ pub(crate) fn nested_sample<S: Series>(
     count: usize,
     place: usize,
 ) -> Result<i64, Fault>
-    ensures { result ≡ nested_sample first count place (seen s.now) }
+    ensures { result ≡ nested_sample first count place (S.seen s.now) }
 {
     let window = Window::new(s, first, count)?;
     let detrended = Detrended::new(window)?;

@@ -27,7 +27,7 @@ impl<S: Series> Differences<S> {
     pub fn new(of: S) -> Result<Differences<S>, Fault>
     where
         S: Drop,
-        ensures { through (λ d. differences_shown (seen d.of)) result ≡ differences_of (seen of) }
+        ensures { through (λ d. differences_shown (S.seen d.of)) result ≡ differences_of (S.seen of) }
     {
         accept(of.length() >= 2, 2 * of.reach())?;
         Ok(Differences { of })
@@ -35,9 +35,9 @@ impl<S: Series> Differences<S> {
 }
 
 impl<S: Series> Series for Differences<S> {
-    ghost seen = { λ d. differences_shown (S.Series.seen d.of) };
+    ghost seen = { λ d. differences_shown (S.seen d.of) };
 
-    ghost laws = { all (λ d. differences-Lawful (S.Series.seen d.of) (one S.Series.laws d.of)) };
+    ghost laws = { all (λ d. differences-Lawful (S.seen d.of) (one S.laws d.of)) };
 
     fn length(&self) -> usize {
         let n = self.of.length();

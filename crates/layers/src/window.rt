@@ -30,7 +30,7 @@ impl<S: Series> Window<S> {
     pub fn new(of: S, first: usize, count: usize) -> Result<Window<S>, Fault>
     where
         S: Drop,
-        ensures { through (λ d. window_shown d.first d.count (seen d.of)) result ≡ window_of first count (seen of) }
+        ensures { through (λ d. window_shown d.first d.count (S.seen d.of)) result ≡ window_of first count (S.seen of) }
     {
         accept(is_within(of.length(), first, count), of.reach())?;
         Ok(Window { of, first, count })
@@ -38,9 +38,9 @@ impl<S: Series> Window<S> {
 }
 
 impl<S: Series> Series for Window<S> {
-    ghost seen = { λ d. window_shown d.first d.count (S.Series.seen d.of) };
+    ghost seen = { λ d. window_shown d.first d.count (S.seen d.of) };
 
-    ghost laws = { all (λ d. window-Lawful d.first d.count (S.Series.seen d.of) d.ends (one S.Series.laws d.of)) };
+    ghost laws = { all (λ d. window-Lawful d.first d.count (S.seen d.of) d.ends (one S.laws d.of)) };
 
     fn length(&self) -> usize {
         self.count.min(self.of.length().saturating_sub(self.first))

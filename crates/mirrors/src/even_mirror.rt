@@ -43,7 +43,7 @@ impl<S: Series> EvenMirror<S> {
     pub fn new(of: S) -> Result<EvenMirror<S>, Fault>
     where
         S: Drop,
-        ensures { through (λ d. even_mirror_shown (seen d.of)) result ≡ even_mirror_of (seen of) }
+        ensures { through (λ d. even_mirror_shown (S.seen d.of)) result ≡ even_mirror_of (S.seen of) }
     {
         accept(has_shape(of.length()), of.reach())?;
         Ok(EvenMirror { of })
@@ -51,9 +51,9 @@ impl<S: Series> EvenMirror<S> {
 }
 
 impl<S: Series> Series for EvenMirror<S> {
-    ghost seen = { λ d. even_mirror_shown (S.Series.seen d.of) };
+    ghost seen = { λ d. even_mirror_shown (S.seen d.of) };
 
-    ghost laws = { all (λ d. even_mirror-Lawful (S.Series.seen d.of) (one S.Series.laws d.of)) };
+    ghost laws = { all (λ d. even_mirror-Lawful (S.seen d.of) (one S.laws d.of)) };
 
     fn length(&self) -> usize {
         let n = self.of.length();

@@ -34,8 +34,8 @@ fn reflect(end: i64, sample: i64) -> i64
 
 // The sample at a place, reflected in the end sample.
 fn reflected<S: Series>(s: &S, end: usize, place: usize) -> Result<i64, Fault>
-    requires { (end < (seen s.now).size) × (place < (seen s.now).size) }
-    ensures { result ≡ Ok (about (samples (seen s.now) end) (samples (seen s.now) place)) }
+    requires { (end < (S.seen s.now).size) × (place < (S.seen s.now).size) }
+    ensures { result ≡ Ok (about (samples (S.seen s.now) end) (samples (S.seen s.now) place)) }
 {
     let pivot = s.sample(end)?;
     let sample = s.sample(place)?;
@@ -47,7 +47,7 @@ impl<S: Series> OddMirror<S> {
     pub fn new(of: S) -> Result<OddMirror<S>, Fault>
     where
         S: Drop,
-        ensures { through (λ d. odd_mirror_shown (seen d.of)) result ≡ odd_mirror_of (seen of) }
+        ensures { through (λ d. odd_mirror_shown (S.seen d.of)) result ≡ odd_mirror_of (S.seen of) }
     {
         accept(has_shape(of.length()), 3 * of.reach())?;
         Ok(OddMirror { of })
@@ -55,9 +55,9 @@ impl<S: Series> OddMirror<S> {
 }
 
 impl<S: Series> Series for OddMirror<S> {
-    ghost seen = { λ d. odd_mirror_shown (S.Series.seen d.of) };
+    ghost seen = { λ d. odd_mirror_shown (S.seen d.of) };
 
-    ghost laws = { all (λ d. odd_mirror-Lawful (S.Series.seen d.of) (one S.Series.laws d.of)) };
+    ghost laws = { all (λ d. odd_mirror-Lawful (S.seen d.of) (one S.laws d.of)) };
 
     fn length(&self) -> usize {
         let n = self.of.length();

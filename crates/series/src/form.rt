@@ -30,9 +30,9 @@ pub trait Series {
 
 /// A reference to a series is a series.
 impl<'a, S: Series> Series for &'a S {
-    ghost seen = { λ d. S.Series.seen d.now };
+    ghost seen = { λ d. S.seen d.now };
 
-    ghost laws = { all (λ d. one S.Series.laws d.now) };
+    ghost laws = { all (λ d. one S.laws d.now) };
 
     fn length(&self) -> usize {
         (**self).length()

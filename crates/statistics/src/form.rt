@@ -32,7 +32,7 @@ pub trait Statistic {
 
     /// The total of a part over a series.
     fn total<S: Series>(s: &S, factor: u64, part: u64) -> Result<u64, Fault>
-        ensures { result ≡ total_of model.formula (seen s.now) factor part };
+        ensures { result ≡ total_of model.formula (S.seen s.now) factor part };
 }
 
 /// The number of parts, or the first refusal that applies to a length and a factor.

@@ -8,7 +8,7 @@ use series::form::Series;
 
 /// The total and the divisor of a part of a series.
 pub fn part<T: Statistic, S: Series>(s: &S, factor: u64, part: u64) -> Result<(u64, u64), Fault>
-    ensures { result ≡ part_of T.Statistic.model.formula (seen s.now) factor part }
+    ensures { result ≡ part_of T.model.formula (S.seen s.now) factor part }
 {
     let total = T::total(s, factor, part)?;
     let divisor = T::divisor(s.length(), factor, part)?;

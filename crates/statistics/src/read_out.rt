@@ -58,8 +58,8 @@ fn add_share<T: Statistic, S: Series>(
     number: u64,
     sum: u64,
 ) -> Result<u64, Fault>
-    requires { IsPart T.Statistic.model.formula (seen s.now).size factor number }
-    ensures { result ≡ read_step T.Statistic.model.formula (seen s.now) factor number sum }
+    requires { IsPart T.model.formula (S.seen s.now).size factor number }
+    ensures { result ≡ read_step T.model.formula (S.seen s.now) factor number sum }
 {
     let (total, divisor) = part::<T, S>(s, factor, number)?;
     let terms = T::terms(s.length(), factor, number)?;
@@ -75,8 +75,8 @@ fn add_share<T: Statistic, S: Series>(
 
 // The sum of the shares of all parts, of which there are so many.
 fn sum_of_shares<T: Statistic, S: Series>(s: &S, factor: u64, parts: u64) -> Result<u64, Fault>
-    requires { parts_of T.Statistic.model.formula (seen s.now).size factor ≡ Ok parts }
-    ensures { result ≡ read_from T.Statistic.model.formula (seen s.now) factor 1 parts 0 }
+    requires { parts_of T.model.formula (S.seen s.now).size factor ≡ Ok parts }
+    ensures { result ≡ read_from T.model.formula (S.seen s.now) factor 1 parts 0 }
 {
     let mut sum = 0;
     for before in 0..parts {
@@ -87,8 +87,8 @@ fn sum_of_shares<T: Statistic, S: Series>(s: &S, factor: u64, parts: u64) -> Res
 
 /// The read-out of a series at a factor. It is at most 4,096 times the exact variance, and short of it by less than one for each part.
 pub fn read_out<T: Statistic, S: Series>(s: &S, factor: u64) -> Result<u64, Fault>
-    ensures value { result ≡ read_out T.Statistic.model.formula (seen s.now) factor }
-    ensures near { ReadNear T.Statistic.model.formula (seen s.now) factor result }
+    ensures value { result ≡ read_out T.model.formula (S.seen s.now) factor }
+    ensures near { ReadNear T.model.formula (S.seen s.now) factor result }
 {
     let parts = T::parts(s.length(), factor)?;
     sum_of_shares::<T, S>(s, factor, parts)

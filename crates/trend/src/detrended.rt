@@ -28,8 +28,8 @@ pub struct Detrended<S: Series> {
 
 // The sum of some samples in a row.
 fn sum<S: Series>(s: &S, first: usize, count: usize) -> Result<i64, Fault>
-    requires { first + count ≤ (seen s.now).size }
-    ensures { result ≡ Ok (sum_z count (onward first (samples (seen s.now)))) }
+    requires { first + count ≤ (S.seen s.now).size }
+    ensures { result ≡ Ok (sum_z count (onward first (samples (S.seen s.now)))) }
 {
     let mut total = 0;
     for i in 0..count {
@@ -40,7 +40,7 @@ fn sum<S: Series>(s: &S, first: usize, count: usize) -> Result<i64, Fault>
 
 // The sum of the last half less that of the first; at an odd length the middle sample is in neither.
 fn delta_of<S: Series>(s: &S) -> Result<i64, Fault>
-    ensures { result ≡ Ok (rise (seen s.now).size (samples (seen s.now))) }
+    ensures { result ≡ Ok (rise (S.seen s.now).size (samples (S.seen s.now))) }
 {
     let n = s.length();
     let half = n / 2;
@@ -62,7 +62,7 @@ impl<S: Series> Detrended<S> {
     pub fn new(of: S) -> Result<Detrended<S>, Fault>
     where
         S: Drop,
-        ensures { through (λ d. detrended_shown d.scale d.delta d.reach d.most d.under (seen d.of)) result ≡ detrended_of (seen of) }
+        ensures { through (λ d. detrended_shown d.scale d.delta d.reach d.most d.under (S.seen d.of)) result ≡ detrended_of (S.seen of) }
     {
         let most = of.length();
         let under = of.reach();
@@ -81,9 +81,9 @@ impl<S: Series> Detrended<S> {
 }
 
 impl<S: Series> Series for Detrended<S> {
-    ghost seen = { λ d. detrended_shown d.scale d.delta d.reach d.most d.under (S.Series.seen d.of) };
+    ghost seen = { λ d. detrended_shown d.scale d.delta d.reach d.most d.under (S.seen d.of) };
 
-    ghost laws = { all (λ d. detrended-Lawful d.scale d.delta d.reach d.most d.under (S.Series.seen d.of) d.serves (one S.Series.laws d.of)) };
+    ghost laws = { all (λ d. detrended-Lawful d.scale d.delta d.reach d.most d.under (S.seen d.of) d.serves (one S.laws d.of)) };
 
     fn length(&self) -> usize {
         if self.of.reach() <= self.under {

@@ -32,8 +32,8 @@ fn bend(a: i64, b: i64, c: i64) -> i64
 
 // The second difference at a place.
 fn root<S: Series>(s: &S, gap: usize, place: usize) -> Result<i64, Fault>
-    requires { place + 2 * gap < (seen s.now).size }
-    ensures { result ≡ Ok (second (samples (seen s.now)) gap place) }
+    requires { place + 2 * gap < (S.seen s.now).size }
+    ensures { result ≡ Ok (second (samples (S.seen s.now)) gap place) }
 {
     let a = s.sample(place)?;
     let b = s.sample(place + gap)?;
@@ -43,8 +43,8 @@ fn root<S: Series>(s: &S, gap: usize, place: usize) -> Result<i64, Fault>
 
 // The total of all second differences at a gap.
 fn sum_squares<S: Series>(s: &S, gap: usize) -> Result<u64, Fault>
-    requires { 2 * gap ≤ (seen s.now).size }
-    ensures { result ≡ gated (second (samples (seen s.now)) gap) ((seen s.now).size - 2 * gap) }
+    requires { 2 * gap ≤ (S.seen s.now).size }
+    ensures { result ≡ gated (second (samples (S.seen s.now)) gap) ((S.seen s.now).size - 2 * gap) }
 {
     let mut total = 0;
     for n in 0..s.length() - 2 * gap {
@@ -67,7 +67,7 @@ impl Statistic for Avar {
 
     fn blind_to() -> Blindness
         ensures model { result ≡ avar.formula.blindness }
-        ensures* constant { do ⌜ result ≡ (← (⟦Avar::BLINDNESS⟧).entry) ⌝ }
+        ensures constant { result ≡ Avar.BLINDNESS }
     {
         Self::BLINDNESS
     }

@@ -9,7 +9,7 @@ add_share-requires g c = (c.args.parts, part_stands g.T.Statistic.model.formula 
 
 pub returns-in_err-sum : goal.returns-in_err-sum
 returns-in_err-sum g c =
-    let p = err_from_is_err_and c.from-residual.result c.from-residual.ensures.1 in
+    let p = err_from_is_err_and c.from_residual.result c.from_residual.ensures.1 in
     rw (p.1, p.2) (sym (read_next g.T.Statistic.model.formula (g.S.Series.seen c.args.s.now) c.args.factor c.args.parts c.loop-before.before c.loop-before.sum (Err c.in_err-sum.field-0.0) (omega arith) c.in_err-sum.ensures) ∙ c.loop-before.invariant)
 
 pub loop-before-preserved : goal.loop-before-preserved

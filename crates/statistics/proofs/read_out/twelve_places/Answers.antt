@@ -8,11 +8,11 @@ loop-i-preserved c =
     let l = c.loop-i in
     let v = c.args.divisor in
     elim c.if-left-divisor.branch [
-      | then-left-divisor w ↦ let h = place_one l.places v l.left c.args.rest l.-i l.invariant.0 w.if-left-divisor.true l.invariant.1 l.invariant.2 in (omega (arith, w.left-is, h.0), omega (arith, ap (λ n. n * v) w.places-is, w.left-is, h.1), omega (arith, w.places-is, h.2))
-      | else-left-divisor w ↦ let h = place_zero l.places v l.left c.args.rest l.-i l.invariant.0 w.if-left-divisor.false l.invariant.1 l.invariant.2 in (omega (arith, w.left-is, h.0), omega (arith, ap (λ n. n * v) w.places-is, w.left-is, h.1), omega (arith, w.places-is, h.2))
+      | then-left-divisor w ↦ let h = place_one l.places v l.left c.args.rest l._i l.invariant.0 w.if-left-divisor.true l.invariant.1 l.invariant.2 in (omega (arith, w.left-is, h.0), omega (arith, ap (λ n. n * v) w.places-is, w.left-is, h.1), omega (arith, w.places-is, h.2))
+      | else-left-divisor w ↦ let h = place_zero l.places v l.left c.args.rest l._i l.invariant.0 w.if-left-divisor.false l.invariant.1 l.invariant.2 in (omega (arith, w.left-is, h.0), omega (arith, ap (λ n. n * v) w.places-is, w.left-is, h.1), omega (arith, w.places-is, h.2))
     ]
 
 pub returns : goal.returns
 returns c =
-    let i : c.loop-i.-i ≡ 12 = omega arith in
+    let i : c.loop-i._i ≡ 12 = omega arith in
     places_all _ c.args.divisor c.loop-i.left c.args.rest c.loop-i.invariant.0 (omega (arith, c.loop-i.invariant.1, ap (λ n. 2 ^ n * c.args.rest) i))
