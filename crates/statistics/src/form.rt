@@ -1,6 +1,7 @@
 // What a statistic is.
 ghost use Rattle.std.specs.Prelude.{◌≡◌};
 ghost use Rattle.series.specs.Seen.{Seen};
+ghost use Rattle.statistics.specs.declared.blindness.Blindness.{Blindness};
 ghost use Rattle.statistics.specs.Model.{Model, accepted, parts_of, admitted, divisor_of, terms_of, total_of, RefusalLaws};
 
 use crate::blindness::Blindness;
@@ -12,11 +13,14 @@ use series::store::FULLEST;
 pub trait Statistic {
     const BLINDNESS: Blindness;
 
+    ghost BLINDNESS: { Blindness };
+
     ghost model: { Model };
 
-    /// The formula's blindness; each statistic's own contract adds that its constant is this.
+    /// The formula's blindness, which is the constant.
     fn blind_to() -> Blindness
-        ensures { result ≡ model.formula.blindness };
+        ensures model { result ≡ model.formula.blindness }
+        ensures constant { result ≡ BLINDNESS };
 
     /// The number of parts, of a length and a factor.
     fn parts(length: usize, factor: u64) -> Result<u64, Fault>

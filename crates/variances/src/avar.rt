@@ -63,11 +63,13 @@ fn sum_squares<S: Series>(s: &S, gap: usize) -> Result<u64, Fault>
 impl Statistic for Avar {
     const BLINDNESS: Blindness = Blindness::Ramps;
 
+    ghost BLINDNESS = { avar.formula.blindness };
+
     ghost model = { avar };
 
     fn blind_to() -> Blindness
         ensures model { result ≡ avar.formula.blindness }
-        ensures constant { result ≡ Avar.BLINDNESS }
+        ensures constant { result ≡ ⟦<Avar as Statistic>⟧.BLINDNESS }
     {
         Self::BLINDNESS
     }

@@ -19,4 +19,4 @@ invariant_of-result g c =
     let s = g.S.Series.seen c.args.of in
     let l = one g.S.Series.laws c.args.of in
     let fits : SFits w64 c.in_ok-delta.delta = search rules in
-    (simp to_z-of_z (serves s l c.length-most.result c.reach-under.result c.in_ok-reach.reach c.in_ok-delta.delta c.length-most.ensures c.reach-under.ensures c.in_ok-delta.ensures c.in_ok-reach.ensures), tt)
+    record { serves = simp to_z-of_z (serves s l c.length-most.result c.reach-under.result c.in_ok-reach.reach c.in_ok-delta.delta c.length-most.ensures c.reach-under.ensures c.in_ok-delta.ensures c.in_ok-reach.ensures) }
