@@ -1,23 +1,29 @@
 #!/usr/bin/env bash
 # Shows that a released run takes no add and no strike: the use does not compile, by the name of the compiler's error.
-# In a copy of the repository, a crate that adds to an open run and strikes must be read without an error,
+# In a copy of the repository, a program that adds to an open run and strikes must compile and run,
 # and the same calls on the released run must be refused.
 set -euo pipefail
 cd "$(dirname "$0")/.."
 copy=$(mktemp -d)
 trap 'rm -rf "$copy"' EXIT
-cp -r crates crates.txt "$copy/"
+mkdir "$copy/crates"
+tar -c --exclude=out crates | tar -x -C "$copy"
 mkdir -p "$copy/crates/misuse/src"
-echo 'misuse: series statistics bench' >> "$copy/crates.txt"
+{
+    cat crates.txt
+    echo 'misuse: series statistics bench'
+} > "$copy/crates.txt"
 
-# The crate, whose body is on standard input, as the compiler reads it.
+# The program, whose function is on standard input, compiled and run before any proof.
 compiled() {
     {
+        echo '#![tactic(auto)]'
         echo 'use bench::open_run::OpenRun;'
         echo 'use series::fault::Fault;'
         cat
-    } > "$copy/crates/misuse/src/lib.rt"
-    (cd "$copy" && rt mir misuse) 2>&1
+        echo 'fn main(_rt: HostRuntime) {}'
+    } > "$copy/crates/misuse/src/main.rt"
+    (cd "$copy/crates/misuse" && rt try) 2>&1
 }
 
 if ! out=$(compiled <<'RT'

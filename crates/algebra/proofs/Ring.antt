@@ -1,9 +1,9 @@
 -- A solver of polynomial equations over ℤ, by computing. An expression is read to a list of monomials with ℤ coefficients; a monomial is the list of its exponents.
 --     ring ρ e f tt : eval e ρ ≡ eval f ρ, where the difference of e and f comes to zero at every monomial
-use Rattle.std.proofs.Common.{◌≡◌, ℕ, zero, suc, ◌+◌, ◌*◌, Bool, true, false, T, eqb, List, [], ◌∷◌, ℤ, pos, negsuc, ◌+ℤ◌, ◌-ℤ◌, ◌*ℤ◌, neg_ℤ, sym, refl, ap, ◌∙◌, ap₂, suc-add, zero-add, arith, eqb→eq}
-use lib.IntN.{*ℤ_comm, +ℤ_comm, +ℤ_assoc, +ℤ_idl, +ℤ_idr, zero-*ℤ, *ℤ-zero}
+use Rattle.std.proofs.Common.{◌≡◌, ℕ, zero, suc, ◌+◌, Bool, true, false, T, eqb, List, [], ◌∷◌, ℤ, pos, negsuc, ◌+ℤ◌, ◌*ℤ◌, neg_ℤ, sym, refl, ap, ◌∙◌, ap₂, suc-add, zero-add, arith, eqb→eq}
+use lib.IntN.{+ℤ_assoc, +ℤ_idl, zero-*ℤ, *ℤ-zero}
 use borrow.Author.Differences.{ints}
-use Rattle.algebra.proofs.Laws.{*ℤ_assoc, *ℤ_left_comm, *ℤ_right, *ℤ_left, neg_times, one_times, times_one}
+use Rattle.algebra.proofs.Laws.{*ℤ_assoc, *ℤ_left_comm, *ℤ_right, *ℤ_left, one_times, times_one}
 
 pub data Expr : Type 0 where
   var : ℕ → Expr

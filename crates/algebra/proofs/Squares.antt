@@ -1,4 +1,4 @@
-use Rattle.std.proofs.Common.{◌≡◌, ℕ, ◌*◌, ℤ, pos, negsuc, ◌*ℤ◌, refl, ◌∙◌, ap₂, arith}
+use Rattle.std.proofs.Common.{◌≡◌, ◌*◌, ℤ, pos, negsuc, ◌*ℤ◌, refl, ◌∙◌, ap₂, arith}
 use Rattle.algebra.specs.Squares.{square}
 use Rattle.algebra.proofs.Sizes.{abs_times}
 

@@ -1,8 +1,8 @@
 -- Finite sums: congruence, split, one more term, reversal, scaling, sums of sums.
-use Rattle.std.proofs.Common.{◌≡◌, ℕ, zero, suc, ◌+◌, ◌-◌, ◌*◌, ◌<◌, ◌≤◌, List, [], ◌∷◌, ℤ, pos, negsuc, ◌+ℤ◌, ◌-ℤ◌, ◌*ℤ◌, neg_ℤ, sym, refl, ap, ◌∙◌, ap₂, add-zero, add-suc, add-one, arith}
+use Rattle.std.proofs.Common.{◌≡◌, ℕ, zero, suc, ◌+◌, ◌-◌, ◌*◌, ◌<◌, [], ◌∷◌, ℤ, pos, ◌+ℤ◌, ◌*ℤ◌, sym, refl, ap, ◌∙◌, ap₂, add-zero, add-suc, add-one, arith}
 use lib.IntN.{+ℤ_idr}
 use borrow.Author.Differences.{ints}
-use Rattle.algebra.proofs.Reify.{reads, ring_by, ring_nat, ring_from, ring_nat_from, zero_of, zeros}
+use Rattle.algebra.proofs.Reify.{reads, ring_by, ring_from, zero_of}
 use Rattle.algebra.specs.Sums.{sum_n, sum_z}
 
 -- ---- over ℕ

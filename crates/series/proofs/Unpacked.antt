@@ -8,7 +8,6 @@ use Rattle.series.specs.declared.fault.Cause.TheVariants.{OutOfRange, Full, Malf
 use Rattle.series.specs.declared.fault.Layer.TheVariants.{Series}
 use Rattle.series.specs.Faults.{fault, cause_number}
 use Rattle.series.specs.Limits.{fullest, largest}
-use Rattle.series.specs.Seen.{Seen}
 use Rattle.series.specs.Listed.{listed}
 use Rattle.series.specs.Packed.{sample, unpacked, first_beyond, FirstOut, beyond, packed_refusal, RefusalTells, bounded, viewed}
 

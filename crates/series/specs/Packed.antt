@@ -1,5 +1,5 @@
 -- Samples packed in bytes: four to a sample, least byte first, two's complement.
-use Rattle.std.specs.Prelude.{◌≡◌, ℕ, ◌+◌, ◌*◌, ◌/◌, ◌%◌, ◌<◌, ◌≤◌, min, Bool, true, false, cond, List, [], ◌∷◌, length, ℤ, pos, Some, None, Option, ◌==◌, nat_le, nat_lt, slice_index_or, unsigned_abs}
+use Rattle.std.specs.Prelude.{◌≡◌, ℕ, ◌+◌, ◌*◌, ◌%◌, ◌<◌, ◌≤◌, min, cond, List, [], ◌∷◌, length, ℤ, pos, Some, None, Option, ◌==◌, nat_le, nat_lt, slice_index_or, unsigned_abs}
 use Rattle.std.proofs.Common.{arith, to_z}
 use Rattle.std.specs.Int.{w32}
 use Rattle.std.proofs.lemmas.Bool.{cond_both, leb-true}
@@ -9,7 +9,6 @@ use Rattle.series.specs.declared.fault.Layer.TheVariants.{Series}
 use Rattle.series.specs.Faults.{fault}
 use Rattle.series.specs.Limits.{fullest, largest}
 use Rattle.series.specs.Seen.{Seen, Lawful}
-use Rattle.series.specs.Listed.{listed}
 
 abbrev pub sample : ℕ → ℕ → ℕ → ℕ → ℤ
 sample b0 b1 b2 b3 = to_z w32 (b0 + b1 * 256 + b2 * 65536 + b3 * 16777216)

@@ -1,7 +1,6 @@
 -- When a factor, a part and a total are refused.
 use Rattle.std.proofs.Common.{◌≡◌, ℕ, ◌<◌, Bool, true, false, cond, ltb, leb, ◌⊎◌, Ok, Err, sym, refl, ap, ◌∙◌, subst, inl, inr, ⊎_elim, arith}
 use Rattle.std.proofs.lemmas.Bool.{ltb-true, ltb-false, le-ltb, lt-leb, and_left, and_right, cond-false}
-use Rattle.series.specs.declared.fault.Fault.{Fault}
 use Rattle.series.specs.declared.fault.Cause.TheVariants.{SeriesTooLong, FactorNotTaken, TooFewSamples, NoSuchPart, ReachTooLarge}
 use Rattle.series.specs.declared.fault.Layer.TheVariants.{Series, Statistic}
 use Rattle.series.specs.Faults.{fault, and_then}

@@ -1,5 +1,5 @@
 -- A share, by a quotient and twelve binary places of the remainder.
-use Rattle.std.proofs.Common.{◌≡◌, ℕ, suc, ◌+◌, ◌-◌, ◌*◌, ◌/◌, ◌%◌, ◌^◌, ◌<◌, ◌≤◌, ◌⊎◌, sym, ap, ◌∙◌, inl, inr, ⊎_elim, mul-le-mul_right, mod-lt, div-add-mod', div-mul-le_self, add-one, arith}
+use Rattle.std.proofs.Common.{◌≡◌, ℕ, ◌+◌, ◌-◌, ◌*◌, ◌/◌, ◌%◌, ◌^◌, ◌<◌, ◌≤◌, ◌⊎◌, sym, ap, ◌∙◌, inl, inr, ⊎_elim, mul-le-mul_right, mod-lt, div-add-mod', div-mul-le_self, add-one, arith}
 use native.Mathlib.Nat.{lt-div-mul-add, pow-succ'}
 use Rattle.std.proofs.lemmas.Bool.{cases_lt}
 use lib.Arith.{digits_div}

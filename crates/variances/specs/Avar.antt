@@ -1,11 +1,11 @@
 -- The overlapping Allan variance, with its laws.
-use Rattle.std.specs.Prelude.{◌≡◌, ℕ, ◌+◌, ◌-◌, ◌*◌, ◌^◌, ◌<◌, ◌≤◌, Bool, true, ℤ, Ok, nat_lt, unsigned_abs}
-use Rattle.std.proofs.Common.{sym, subst, ap, arith, mul-le-mul}
+use Rattle.std.specs.Prelude.{◌≡◌, ℕ, ◌+◌, ◌-◌, ◌*◌, ◌^◌, ◌<◌, ◌≤◌, true, nat_lt, unsigned_abs}
+use Rattle.std.proofs.Common.{subst, ap, arith, mul-le-mul}
 use Rattle.std.proofs.lemmas.Bool.{ltb-true}
 use Rattle.algebra.specs.Differences.{second}
 use Rattle.algebra.proofs.Differences.{second_at, second_ramp, second_turn}
 use Rattle.series.specs.Limits.{fullest}
-use Rattle.series.specs.Seen.{Seen, samples}
+use Rattle.series.specs.Seen.{samples}
 use Rattle.statistics.specs.declared.blindness.Blindness.{Blindness}
 use Rattle.statistics.specs.declared.blindness.Blindness.TheVariants.{Ramps, Drifts}
 use Rattle.statistics.specs.Model.{Formula, Model, IsPart}

@@ -1,4 +1,4 @@
-use Rattle.std.proofs.Common.{sym, ◌∙◌, arith}
+use Rattle.std.proofs.Common.{arith}
 use Rattle.job_line.specs.Bytes.{is_name}
 use Rattle.job_line.proofs.Runs.{run_more, run_stops, run_all}
 use Rattle.job_line.proofs.tokens.name_end.Goals as goal

@@ -1,6 +1,5 @@
-use Rattle.std.proofs.Common.{◌≡◌, ℕ, ◌+◌, ◌*◌, ◌/◌, ◌<◌, Some, None, sym, ap, ◌∙◌, mod-lt, arith}
+use Rattle.std.proofs.Common.{◌≡◌, ◌+◌, ◌/◌, Some, ap, ◌∙◌, mod-lt, arith}
 use Rattle.statistics.specs.ReadOut.{share}
-use Rattle.statistics.specs.Totals.{fitting}
 use Rattle.statistics.proofs.Shares.{share_pieces, places_few, past_many}
 use Rattle.statistics.proofs.Totals.{fits_word, past_word}
 use Rattle.statistics.proofs.read_out.share_of.Goals as goal

@@ -1,4 +1,4 @@
-use Rattle.std.proofs.Common.{◌≡◌, ◌+◌, Ok, Err, sym, ◌∙◌, arith}
+use Rattle.std.proofs.Common.{◌+◌, Ok, Err, sym, ◌∙◌, arith}
 use Rattle.std.proofs.lemmas.Result.{err_from_is_err_and}
 use Rattle.statistics.proofs.Formulas.{part_stands}
 use Rattle.statistics.proofs.ReadOuts.{read_next, read_all}

@@ -1,4 +1,4 @@
-use Rattle.std.proofs.Common.{◌≡◌, sym, ap, ◌∙◌, arith}
+use Rattle.std.proofs.Common.{sym, ap, ◌∙◌, arith}
 use Rattle.statistics.specs.Model.{admitted}
 use Rattle.variances.specs.Avar.{divisor_bounds}
 use Rattle.variances.proofs.avar.AvarStatistic.divisor.Goals as goal
