@@ -13,23 +13,23 @@ import re
 import subprocess
 import sys
 
-# name characters of specs and proofs; a path's dots separate names
-TOKEN = re.compile(r"[^\s(){}\[\],;.:=λ→×⊎¬≡≢≤<>+/|&\"`⌜⌝∷]+")
+# a string, or a name's characters in specs and proofs; a path's dots separate names
+TOKEN = re.compile(r"\"(?:[^\"\\]|\\.)*\"|[^\s(){}\[\],;.:=λ→×⊎¬≡≢≤<>+/|&\"`⌜⌝∷]+")
 DECLARED = re.compile(r"^(?:abbrev |unfoldable )?(?:pub )?(?:record |data |ruleset )?([^\s:({]+)")
-FIELD = re.compile(r"^  (?:pub )?((?:[^\s:(){}]+ )+):")
+FIELD = re.compile(r"^ {2,}(?:let )?(?:pub )?((?:[^\s:(){}]+ )+):")
 
 # what a dash joins here are two names, or a name and a fact
 KEPT = {"length-unpacked", "unpacked-drop"}
 FACTS = {"lawful": "Lawful"}
 # generated names: goals, invariants and measures
-MADE = re.compile(r"^(returns|loop|invariant|decreases|overflow|nonzero|bounds|slice|offset|prove|ghost)\b|-requires(-|$)")
+MADE = re.compile(r"^(returns|loop|invariant|decreases|overflow|nonzero|bounds|slice|offset|prove|ghost)(_[a-z]+)?(-|$)|-requires(-|$)")
 # words that the kit's own script respells in code but not in edits
 KIT = {"natAbs": "unsigned_abs", "ltb": "nat_lt", "leb": "nat_le"}
 
 
 def spelled(name):
     """The new spelling of a name."""
-    if name in KEPT or MADE.search(name):
+    if name in KEPT or MADE.search(name) or name.endswith(tuple("-" + fact for fact in FACTS.values())):
         return name
     tail = ""
     for word, fact in FACTS.items():

@@ -1,12 +1,12 @@
 // Why a call is refused, by which part, and at which place.
 ghost use Rattle.std.specs.Prelude.{◌≡◌, ◌==◌, Decides};
+ghost use Rattle.std.specs.Cmp.Rules.{comparing};
+ghost use Rattle.std.specs.Cmp.{partial_equiv_from_equiv};
+ghost use Rattle.std.specs.Ordering.{on};
+ghost use Rattle.std.proofs.Common.{rules};
 ghost use Rattle.series.specs.declared.fault.Cause.TheVariants.{NoSuchPlace};
 ghost use Rattle.series.specs.declared.fault.Layer.TheVariants.{Series};
 ghost use Rattle.series.specs.Faults.{cause_number, layer_number, fault};
-ghost use Rattle.std.specs.Cmp.Rules.{comparing};
-ghost use Rattle.std.proofs.Common.{rules};
-ghost use Rattle.std.specs.Cmp as Keys;
-ghost use Rattle.std.specs.Ordering.{on};
 
 /// Why a call is refused. The numbers are those that the job text and the controller show.
 #[derive(Clone, Copy, Debug)]
@@ -41,7 +41,7 @@ impl Cause {
 impl PartialEq for Cause {
     ghost eq = { on cause_number ◌==◌ };
 
-    ghost laws = { Keys.partial_equiv_from_equiv (Prim.search (comparing, rules)) };
+    ghost laws = { partial_equiv_from_equiv (Prim.search (comparing, rules)) };
 
     fn eq(&self, other: &Cause) -> bool
         ensures value { result ≡ (cause_number self.now == cause_number other.now) }

@@ -1,7 +1,7 @@
 // A series over packed bytes that it is lent.
 ghost use Rattle.std.specs.Prelude.{◌≡◌, ◌*◌, ◌≤◌, length, pos, IfOk, nat_le, slice_index_or, unsigned_abs};
-ghost use Rattle.series.specs.Limits.{largest};
 ghost use Rattle.std.specs.Result.{result_err};
+ghost use Rattle.series.specs.Limits.{largest};
 ghost use Rattle.series.specs.Seen.{Seen, all};
 ghost use Rattle.series.specs.Listed.{listed};
 ghost use Rattle.series.specs.Packed.{unpacked, first_beyond, packed_refusal, RefusalTells, bounded, viewed, viewed-Lawful};

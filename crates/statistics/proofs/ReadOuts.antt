@@ -78,18 +78,18 @@ module _ (M : Model) (s : Seen) (m : ℕ) where
       let v = F.divisor s.size m (d + 1) in
       let x = share t v in
       let E = exact F s m d in
-      let pos-v : 1 ≤ v = (M.divisible s.size m (d + 1) (total_ok F s m (d + 1) t p.1).0).0 in
+      let pos_v : 1 ≤ v = (M.divisible s.size m (d + 1) (total_ok F s m (d + 1) t p.1).0).0 in
       let o : or_zero (total_of F s m (d + 1)) ≡ t = ap or_zero p.1 in
       let over : (exact F s m (suc d)).over ≡ E.over * v + t * E.under = ap (λ n. E.over * v + n * E.under) o in
       let lo = more_least sum E.over E.under t v x a.least (share_least t v) in
-      let hi = more_most sum E.over E.under t v x d a.positive a.most (share_most t v pos-v) in
+      let hi = more_most sum E.over E.under t v x d a.positive a.most (share_most t v pos_v) in
       let lo' : u * (E.under * v) ≤ 4096 * (exact F s m (suc d)).over = omega (arith, over, ap (λ n. n * (E.under * v)) p.2, lo) in
       let hi' : 4096 * (exact F s m (suc d)).over < (u + suc d) * (E.under * v) = omega (arith, over, ap (λ n. n * (E.under * v)) p.2, hi) in (
         record {
           totals = λ j l h. ⊎_elim (λ g. a.totals j l (omega arith)) (λ g. let q : j ≡ d + 1 = omega arith in (t, ap (total_of F s m) q ∙ p.1)) (cases_lt j (d + 1));
           sums = p.2 ∙ ap (λ n. n + x) a.sums ∙ sym (more_shares F s m d t p.1);
           fits = p.3;
-          positive = mul-le-mul a.positive pos-v;
+          positive = mul-le-mul a.positive pos_v;
           least = lo';
           most = omega (arith, hi');
         },

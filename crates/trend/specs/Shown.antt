@@ -19,9 +19,9 @@ detrended-Lawful D Δ reach most under s h l = record {
   short = cond_both (nat_le s.bound under) (min s.size most) 0 (λ n. n ≤ longest) (λ _. omega (arith, l.short)) (λ _. omega arith);
   near = h.1;
   within = λ k. cond_both (nat_le s.bound under) (min s.size most) 0 (λ n. k < n → unsigned_abs (tilted D Δ (samples s k) k) ≤ reach)
-      (λ e u. tilted-within D Δ (samples s k) k reach most under (omega (arith, leb-true s.bound under e, l.within k (omega arith))) (omega arith) h.0)
+      (λ e u. tilted_within D Δ (samples s k) k reach most under (omega (arith, leb-true s.bound under e, l.within k (omega arith))) (omega arith) h.0)
       (λ _ u. absurd (omega arith));
 }
   where
-    tilted-within : (D : ℕ) (Δ z : ℤ) (k reach most under : ℕ) → unsigned_abs z ≤ under → k ≤ most → D * under + unsigned_abs Δ * most ≤ reach → unsigned_abs (tilted D Δ z k) ≤ reach
-    tilted-within D Δ z k reach most under a b c = omega (arith, tilt_parts D Δ z k, mul-le-mul_left D a, mul-le-mul_left (unsigned_abs Δ) b)
+    tilted_within : (D : ℕ) (Δ z : ℤ) (k reach most under : ℕ) → unsigned_abs z ≤ under → k ≤ most → D * under + unsigned_abs Δ * most ≤ reach → unsigned_abs (tilted D Δ z k) ≤ reach
+    tilted_within D Δ z k reach most under a b c = omega (arith, tilt_parts D Δ z k, mul-le-mul_left D a, mul-le-mul_left (unsigned_abs Δ) b)
