@@ -1,5 +1,5 @@
 -- Why a call is refused, by which part and at which place, with the number of each case.
-use Rattle.std.specs.Prelude.{ℕ, Ok, Err, Result}
+use Rattle.std.specs.Prelude.{ℕ, List, ◌++◌, codes, decimal, Ok, Err, Result}
 use Rattle.series.specs.declared.fault.Cause.{Cause}
 use Rattle.series.specs.declared.fault.Cause.TheVariants.{OutOfRange, Full, NothingToStrike, SeriesTooLong, FactorNotTaken, TooFewSamples, NoSuchPart, TotalTooLarge, ReachTooLarge, NoSuchPlace, TooLittleRoom, NoFigure, MalformedBytes, NoSuchNoise, MalformedLine, NotInThisState, UnknownName}
 use Rattle.series.specs.declared.fault.Layer.{Layer}
@@ -37,3 +37,7 @@ fault cause layer place = record { cause = cause; layer = layer; place = place }
 abbrev pub and_then : {A B : Type 0} → Result A Fault → (A → Result B Fault) → Result B Fault
 and_then (Ok x) go = go x
 and_then (Err f) go = Err f
+
+-- what is printed of a refusal: a mark, the numbers of cause and layer, and the place
+abbrev pub shown_fault : Fault → List ℕ
+shown_fault f = codes "! " ++ (decimal (cause_number f.cause) ++ (codes " " ++ (decimal (layer_number f.layer) ++ (codes " " ++ decimal f.place))))

@@ -1,15 +1,14 @@
 // Why a call is refused, by which part, and at which place.
-ghost use Rattle.std.specs.Prelude.{◌≡◌, ◌==◌, Decides};
-ghost use Rattle.std.specs.Cmp.Rules.{comparing};
-ghost use Rattle.std.specs.Cmp.{partial_equiv_from_equiv};
-ghost use Rattle.std.specs.Ordering.{on};
-ghost use Rattle.std.proofs.Common.{rules};
+ghost use Rattle.std.specs.Prelude.{◌≡◌, Some};
+ghost use Rattle.series.specs.declared.fault.Cause.{Cause as ACause};
 ghost use Rattle.series.specs.declared.fault.Cause.TheVariants.{NoSuchPlace};
 ghost use Rattle.series.specs.declared.fault.Layer.TheVariants.{Series};
-ghost use Rattle.series.specs.Faults.{cause_number, layer_number, fault};
+ghost use Rattle.series.specs.Faults.{cause_number, layer_number, fault, shown_fault};
+
+use std::fmt;
 
 /// Why a call is refused. The numbers are those that the job text and the controller show.
-#[derive(Clone, Copy, Debug)]
+#[derive(Clone, Copy, PartialEq, Eq, Debug)]
 pub enum Cause {
     OutOfRange = 1,
     Full = 2,
@@ -31,28 +30,13 @@ pub enum Cause {
 }
 
 impl Cause {
+    /// The cause's number, which no other cause has.
     pub fn number(self) -> u8
-        ensures { result ≡ cause_number self }
+        ensures value { result ≡ cause_number self }
+        ensures alone { (other : ACause) → result ≡ cause_number other → self ≡ other }
     {
         self as u8
     }
-}
-
-impl PartialEq for Cause {
-    ghost eq = { on cause_number ◌==◌ };
-
-    ghost laws = { partial_equiv_from_equiv (Prim.search (comparing, rules)) };
-
-    fn eq(&self, other: &Cause) -> bool
-        ensures value { result ≡ (cause_number self.now == cause_number other.now) }
-        ensures decides { Decides result (self.now ≡ other.now) }
-    {
-        (*self).number() == (*other).number()
-    }
-}
-
-impl Eq for Cause {
-    ghost laws = { Prim.search (comparing, rules) };
 }
 
 /// The part that refuses.
@@ -69,6 +53,17 @@ impl Layer {
     {
         self as u8
     }
+
+    /// The refusal by this part, for a cause and at a place.
+    pub fn refusal(self, cause: Cause, place: u64) -> Fault
+        ensures { result ≡ fault cause self place }
+    {
+        Fault {
+            cause,
+            layer: self,
+            place,
+        }
+    }
 }
 
 /// A refusal. It passes up whole, from the part that found it to the caller.
@@ -84,10 +79,18 @@ impl Fault {
     pub fn no_such_place(place: usize) -> Fault
         ensures { result ≡ fault NoSuchPlace Series place }
     {
-        Fault {
-            cause: Cause::NoSuchPlace,
-            layer: Layer::Series,
-            place: place as u64,
-        }
+        Layer::Series.refusal(Cause::NoSuchPlace, place as u64)
+    }
+}
+
+/// The numbers of cause and layer, and the place.
+impl fmt::Display for Fault {
+    ghost output = { λ f. Some (shown_fault f) };
+
+    fn fmt<W: fmt::Write>(&self, f: &mut fmt::Formatter<W>) -> fmt::Result {
+        let cause = self.cause.number();
+        let layer = self.layer.number();
+        let place = self.place;
+        write!(f, "! {cause} {layer} {place}")
     }
 }

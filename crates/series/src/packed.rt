@@ -1,94 +1,80 @@
 // A series over packed bytes that it is lent.
-ghost use Rattle.std.specs.Prelude.{◌≡◌, ◌*◌, ◌≤◌, length, pos, IfOk, nat_le, slice_index_or, unsigned_abs};
+ghost use Rattle.std.specs.Prelude.{◌≡◌, ℕ, ◌+◌, ◌*◌, ◌≤◌, length, pos, IfOk, slice_index_or, unsigned_abs};
+ghost use Rattle.std.specs.Iterator.{YieldsFirst, item_count};
 ghost use Rattle.std.specs.Result.{result_err};
-ghost use Rattle.series.specs.Limits.{largest};
+ghost use Rattle.series.specs.Limits.{fullest, largest};
 ghost use Rattle.series.specs.Seen.{Seen, all};
-ghost use Rattle.series.specs.Listed.{listed};
-ghost use Rattle.series.specs.Packed.{unpacked, first_beyond, packed_refusal, RefusalTells, bounded, viewed, viewed-Lawful};
+ghost use Rattle.series.specs.Listed.{listed, listed-Lawful};
+ghost use Rattle.series.specs.Packed.{unpacked, first_beyond, packed_refusal, RefusalTells};
 
 use crate::fault::{Cause, Fault, Layer};
 use crate::form::Series;
-use crate::store::{FULLEST, LARGEST};
+use crate::store::{FULLEST, LARGEST, in_range};
 
-/// Samples of four bytes each, least byte first, two's complement.
+/// Samples of four bytes each, least byte first, two's complement, all of them in range.
 #[derive(Clone, Copy)]
 pub struct Packed<'a> {
     bytes: &'a [u8],
+    ghost few: { length (unpacked bytes.now) ≤ fullest },
+    ghost small: { (k : ℕ) → unsigned_abs (slice_index_or (unpacked bytes.now) k (pos 0)) ≤ largest },
 }
 
-fn in_range(sample: i64) -> bool
-    ensures { result ≡ nat_le (unsigned_abs sample) largest }
-{
-    sample <= LARGEST && sample >= -LARGEST
+// The samples of some bytes, taken off the front.
+#[derive(Clone, Copy)]
+struct Samples<'a>(&'a [u8]);
+
+impl<'a> Iterator for Samples<'a> {
+    type Item = i64;
+
+    ghost next_gives = { YieldsFirst (λ s. unpacked s.0.now) };
+
+    ghost remaining = { item_count (λ s. unpacked s.0.now) };
+
+    fn next(&mut self) -> Option<i64> {
+        match self.0 {
+            [b0, b1, b2, b3, rest @ ..] => {
+                self.0 = rest;
+                Some(i64::from(i32::from_le_bytes([*b0, *b1, *b2, *b3])))
+            }
+            _ => None,
+        }
+    }
 }
 
 // The place of the first sample out of range.
-fn first_beyond(bytes: &[u8]) -> Option<u64>
-    ensures { result ≡ first_beyond 0 (unpacked bytes.now) }
+fn first_beyond(bytes: &[u8]) -> Option<usize>
+    ensures { result ≡ first_beyond (unpacked bytes.now) }
 {
-    let mut left = bytes;
-    let mut place = 0;
-    while let [b0, b1, b2, b3, rest @ ..] = left {
-        if !in_range(i64::from(i32::from_le_bytes([*b0, *b1, *b2, *b3]))) {
+    for (place, sample) in Samples(bytes).enumerate() {
+        if !in_range(sample) {
             return Some(place);
         }
-        place += 1;
-        left = rest;
     }
     None
 }
 
-// Why bytes are refused, if they are.
-fn refusal(bytes: &[u8]) -> Option<Fault>
-    ensures { result ≡ packed_refusal bytes.now }
+// Whether bytes are accepted, or why not.
+fn check(bytes: &[u8]) -> Result<(), Fault>
+    ensures { result_err result ≡ packed_refusal bytes.now }
 {
     if bytes.len() % 4 != 0 {
-        return Some(Fault {
-            cause: Cause::MalformedBytes,
-            layer: Layer::Series,
-            place: 0,
-        });
+        return Err(Layer::Series.refusal(Cause::MalformedBytes, 0));
     }
     if bytes.len() > 4 * FULLEST {
-        return Some(Fault {
-            cause: Cause::Full,
-            layer: Layer::Series,
-            place: 0,
-        });
+        return Err(Layer::Series.refusal(Cause::Full, 0));
     }
     match first_beyond(bytes) {
-        Some(place) => Some(Fault {
-            cause: Cause::OutOfRange,
-            layer: Layer::Series,
-            place,
-        }),
-        None => None,
-    }
-}
-
-// The first sample of some bytes, and 0 where there is none.
-fn front(bytes: &[u8]) -> i64
-    ensures { result ≡ slice_index_or (unpacked bytes.now) 0 (pos 0) }
-{
-    match bytes {
-        [b0, b1, b2, b3, ..] => i64::from(i32::from_le_bytes([*b0, *b1, *b2, *b3])),
-        _ => 0,
+        Some(place) => Err(Layer::Series.refusal(Cause::OutOfRange, place as u64)),
+        None => Ok(()),
     }
 }
 
 // The sample at a place: the bytes before it are cut off.
 fn sample_at(bytes: &[u8], place: usize) -> i64
-    requires { 4 * place ≤ length bytes.now }
+    requires { 4 * place + 4 ≤ length bytes.now }
     ensures { result ≡ slice_index_or (unpacked bytes.now) place (pos 0) }
 {
-    front(&bytes[4 * place..])
-}
-
-// A sample in range as it is, and 0 for any other.
-fn cut(sample: i64) -> i64
-    ensures { result ≡ bounded sample }
-{
-    if in_range(sample) { sample } else { 0 }
+    Samples(&bytes[4 * place..]).next().unwrap()
 }
 
 impl<'a> Packed<'a> {
@@ -96,22 +82,20 @@ impl<'a> Packed<'a> {
     pub fn new(bytes: &'a [u8]) -> Result<Packed<'a>, Fault>
         ensures why { result_err result ≡ packed_refusal bytes.now }
         ensures tells { RefusalTells bytes.now (result_err result) }
-        ensures made { IfOk result (λ p. viewed p.bytes.now ≡ listed (unpacked bytes.now)) }
+        ensures made { IfOk result (λ p. ⟦<Packed<'a> as Series>⟧.seen p ≡ listed (unpacked bytes.now)) }
     {
-        match refusal(bytes) {
-            Some(fault) => Err(fault),
-            None => Ok(Packed { bytes }),
-        }
+        check(bytes)?;
+        Ok(Packed { bytes })
     }
 }
 
 impl<'a> Series for Packed<'a> {
-    ghost seen = { λ p. viewed p.bytes.now };
+    ghost seen = { λ p. listed (unpacked p.bytes.now) };
 
-    ghost laws = { all (λ p. viewed-Lawful p.bytes.now) };
+    ghost laws = { all (λ p. listed-Lawful (unpacked p.bytes.now) p.few p.small) };
 
     fn length(&self) -> usize {
-        (self.bytes.len() / 4).min(FULLEST)
+        self.bytes.len() / 4
     }
 
     fn reach(&self) -> u64 {
@@ -119,9 +103,9 @@ impl<'a> Series for Packed<'a> {
     }
 
     fn sample(&self, place: usize) -> Result<i64, Fault> {
-        if place < self.length() {
-            return Ok(cut(sample_at(self.bytes, place)));
+        if place >= self.length() {
+            return Err(Fault::no_such_place(place));
         }
-        Err(Fault::no_such_place(place))
+        Ok(sample_at(self.bytes, place))
     }
 }

@@ -4,6 +4,7 @@ ghost use Rattle.series.specs.Limits.{fullest, largest};
 
 mod calls;
 
+pub(crate) use calls::in_range;
 pub use calls::{FULLEST, LARGEST};
 
 /// The samples of a run, the oldest first.

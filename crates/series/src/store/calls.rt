@@ -1,5 +1,6 @@
 // What a run's store can do.
-ghost use Rattle.std.specs.Prelude.{◌≡◌, [], IfOk};
+ghost use Rattle.std.specs.Prelude.{◌≡◌, [], IfOk, nat_le, unsigned_abs};
+ghost use Rattle.series.specs.Limits.{largest};
 ghost use Rattle.series.specs.Listed.{listed, held, held-Lawful};
 ghost use Rattle.series.specs.Seen.{all};
 ghost use Rattle.series.specs.Stored.{Pushed, Popped};
@@ -14,6 +15,12 @@ pub const FULLEST: usize = 4096;
 
 /// How large a sample may be.
 pub const LARGEST: i64 = 1_048_576;
+
+pub(crate) fn in_range(sample: i64) -> bool
+    ensures { result ≡ nat_le (unsigned_abs sample) largest }
+{
+    (-LARGEST..=LARGEST).contains(&sample)
+}
 
 impl Store {
     /// An empty store. This is the only call that may fail for want of memory.
@@ -32,7 +39,7 @@ impl Store {
         if count >= FULLEST {
             return Err(Cause::Full);
         }
-        if sample > LARGEST || sample < -LARGEST {
+        if !in_range(sample) {
             return Err(Cause::OutOfRange);
         }
         self.samples.push_reserved(sample);
@@ -43,10 +50,8 @@ impl Store {
     pub fn pop(&mut self) -> Option<usize>
         ensures { Popped (held self.old) result (held self.new) }
     {
-        match self.samples.pop() {
-            Some(_) => Some(self.samples.len()),
-            None => None,
-        }
+        self.samples.pop()?;
+        Some(self.samples.len())
     }
 }
 
@@ -64,9 +69,7 @@ impl Series for Store {
     }
 
     fn sample(&self, place: usize) -> Result<i64, Fault> {
-        if place < self.samples.len() {
-            return Ok(self.samples[place]);
-        }
-        Err(Fault::no_such_place(place))
+        let sample = self.samples.get(place).copied();
+        sample.ok_or(Fault::no_such_place(place))
     }
 }

@@ -1,10 +1,13 @@
-use Rattle.std.proofs.Common.{◌≡◌, ◌+◌, ◌*◌, length}
+use Rattle.std.proofs.Common.{◌≡◌, ◌+◌, ◌≤◌, length}
+use Rattle.std.specs.List.{position_from}
 use Rattle.series.specs.Packed.{unpacked, first_beyond}
+use Rattle.series.proofs.Unpacked.{out}
 use Rattle.series.proofs.packed.first_beyond.Given as goal
 
--- what is left gives the answer, and every sample before it took four bytes
-abbrev pub invariant-loop-left : goal.invariant-loop-left
-invariant-loop-left l = (first_beyond l.place (unpacked l.left) ≡ first_beyond 0 (unpacked l.bytes)) × (4 * l.place + length l.left ≡ length l.bytes)
-
-abbrev pub decreases-loop-left : goal.decreases-loop-left
-decreases-loop-left l = length l.left
+-- what is left gives the answer
+abbrev pub invariant-loop-place : goal.invariant-loop-place
+invariant-loop-place l =
+    (goal.iterator-loop-place).can_next l.place-iterator ×
+    (goal.iterator-loop-place).is_finite l.place-iterator ×
+    (position_from out l.place-iterator.count (unpacked l.place-iterator.iter.0.now) ≡ first_beyond (unpacked l.fn.bytes)) ×
+    (l.place-iterator.count + length (unpacked l.place-iterator.iter.0.now) ≤ length l.fn.bytes)

@@ -1,10 +1,11 @@
-use Rattle.std.proofs.Common.{sym, subst, rules}
+use Rattle.std.proofs.Common.{subst}
+use Rattle.std.proofs.Common.{rules}
 use Rattle.series.specs.Packed.{RefusalTells}
-use Rattle.series.proofs.Unpacked.{accepted_is, refusal_tells}
+use Rattle.series.proofs.Unpacked.{refusal_tells}
 use Rattle.series.proofs.packed.Packed.new.Goals as goal
 
-pub returns-in-Some : goal.returns-in-Some
-returns-in-Some c = record { why = search rules; tells = subst (λ o. RefusalTells c.args.bytes.now o) (sym c.in-Some.ensures) (refusal_tells c.args.bytes.now); made = tt }
+pub returns-in_err-check-clause-tells : goal.returns-in_err-check-clause-tells
+returns-in_err-check-clause-tells c = subst (λ o. RefusalTells c.args.bytes.now o) (search rules) (refusal_tells c.args.bytes.now)
 
-pub returns-in-None : goal.returns-in-None
-returns-in-None c = record { why = search rules; tells = subst (λ o. RefusalTells c.args.bytes.now o) (sym c.in-None.ensures) (refusal_tells c.args.bytes.now); made = accepted_is c.args.bytes.now (sym c.in-None.ensures) }
+pub invariant_of-result : goal.invariant_of-result
+invariant_of-result c = let t = (refusal_tells c.args.bytes.now).1 (search rules) in record { few = t.1; small = t.2 }
