@@ -43,20 +43,16 @@ pub trait Statistic {
 pub fn accept(length: usize, takes: bool, enough: bool, parts: u64) -> Result<u64, Fault>
     ensures { result ≡ accepted length takes enough parts }
 {
-    let cause = if length > FULLEST {
-        Cause::SeriesTooLong
-    } else if !takes {
-        Cause::FactorNotTaken
-    } else if !enough {
-        Cause::TooFewSamples
-    } else {
-        return Ok(parts);
-    };
-    Err(Fault {
-        cause,
-        layer: Layer::Statistic,
-        place: 0,
-    })
+    if length > FULLEST {
+        return Err(Layer::Statistic.refusal(Cause::SeriesTooLong, 0));
+    }
+    if !takes {
+        return Err(Layer::Statistic.refusal(Cause::FactorNotTaken, 0));
+    }
+    if !enough {
+        return Err(Layer::Statistic.refusal(Cause::TooFewSamples, 0));
+    }
+    Ok(parts)
 }
 
 /// The number of parts, where the part is one of them.
@@ -64,12 +60,8 @@ pub fn admit(parts: Result<u64, Fault>, part: u64) -> Result<u64, Fault>
     ensures { result ≡ admitted parts part }
 {
     let count = parts?;
-    if part == 0 || part > count {
-        return Err(Fault {
-            cause: Cause::NoSuchPart,
-            layer: Layer::Statistic,
-            place: part,
-        });
+    if !(1..=count).contains(&part) {
+        return Err(Layer::Statistic.refusal(Cause::NoSuchPart, part));
     }
     Ok(count)
 }

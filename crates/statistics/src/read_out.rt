@@ -34,10 +34,7 @@ fn share_of(total: u64, divisor: u64) -> Option<u64>
     ensures { result ≡ fitting (share total divisor) }
 {
     let places = twelve_places(total % divisor, divisor);
-    match (total / divisor).checked_mul(4096) {
-        Some(whole) => Some(whole + places),
-        None => None,
-    }
+    Some((total / divisor).checked_mul(4096)? + places)
 }
 
 // The sum with a part's share, where a word holds it.
@@ -45,10 +42,7 @@ fn lift(sum: u64, total: u64, divisor: u64) -> Option<u64>
     requires { 1 ≤ divisor }
     ensures { result ≡ fitting (sum + share total divisor) }
 {
-    match share_of(total, divisor) {
-        Some(more) => sum.checked_add(more),
-        None => None,
-    }
+    sum.checked_add(share_of(total, divisor)?)
 }
 
 // The sum with the share of a part that is accepted.
@@ -63,14 +57,8 @@ fn add_share<T: Statistic, S: Series>(
 {
     let (total, divisor) = part::<T, S>(s, factor, number)?;
     let terms = T::terms(s.length(), factor, number)?;
-    match lift(sum, total, divisor) {
-        Some(more) => Ok(more),
-        None => Err(Fault {
-            cause: Cause::TotalTooLarge,
-            layer: Layer::Statistic,
-            place: terms,
-        }),
-    }
+    let lifted = lift(sum, total, divisor);
+    lifted.ok_or(Layer::Statistic.refusal(Cause::TotalTooLarge, terms))
 }
 
 // The sum of the shares of all parts, of which there are so many.
@@ -79,8 +67,8 @@ fn sum_of_shares<T: Statistic, S: Series>(s: &S, factor: u64, parts: u64) -> Res
     ensures { result ≡ read_from T.model.formula (S.seen s.now) factor 1 parts 0 }
 {
     let mut sum = 0;
-    for before in 0..parts {
-        sum = add_share::<T, S>(s, factor, before + 1, sum)?;
+    for number in 1..=parts {
+        sum = add_share::<T, S>(s, factor, number, sum)?;
     }
     Ok(sum)
 }

@@ -9,7 +9,7 @@ const LARGEST_ROOT: i64 = 4_294_967_295;
 pub fn grow(total: u64, root: i64) -> Option<u64>
     ensures { result ≡ grown total root }
 {
-    if root > LARGEST_ROOT || root < -LARGEST_ROOT {
+    if !(-LARGEST_ROOT..=LARGEST_ROOT).contains(&root) {
         return None;
     }
     let size = root.unsigned_abs();

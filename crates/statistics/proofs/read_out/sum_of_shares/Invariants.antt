@@ -3,5 +3,5 @@ use Rattle.statistics.specs.ReadOut.{read_from}
 use Rattle.statistics.proofs.read_out.sum_of_shares.Given as goal
 
 -- what is left gives the answer
-abbrev pub invariant-loop-before : goal.invariant-loop-before
-invariant-loop-before g l = let F = g.T.Statistic.model.formula in let s = g.S.Series.seen l.s in read_from F s l.factor (l.before + 1) (l.parts - l.before) l.sum ≡ read_from F s l.factor 1 l.parts 0
+abbrev pub invariant-loop-number : goal.invariant-loop-number
+invariant-loop-number g l = let F = g.T.Statistic.model.formula in let s = g.S.Series.seen l.s in read_from F s l.factor l.number (l.parts + 1 - l.number) l.sum ≡ read_from F s l.factor 1 l.parts 0
