@@ -8,7 +8,8 @@ use Rattle.algebra.proofs.Squares.{square_times}
 use Rattle.series.specs.declared.fault.Fault.{Fault}
 use Rattle.series.specs.declared.fault.Cause.TheVariants.{TotalTooLarge}
 use Rattle.series.specs.declared.fault.Layer.TheVariants.{Statistic}
-use Rattle.series.specs.Faults.{fault}
+use Rattle.std.specs.Option.{ok_or}
+use Rattle.series.specs.Faults.{fault, and_then}
 use Rattle.statistics.specs.Totals.{largest_word, largest_root, fitting, grown, stepped, total_from, gated, squares, Inside, FirstBeyond, Totalled, TotalLaws}
 use Rattle.statistics.specs.Model.{SameTotal}
 
@@ -47,13 +48,19 @@ grown_none t r = go (leb (nat_abs r) largest_root) refl
     go true h e = inr (fitting_none (t + square r) e)
     go false h e = inl (leb-false (nat_abs r) largest_root h)
 
+-- a step is an answer or the refusal, and what follows
+then_stepped : (place : ℕ) (go : ℕ → Result ℕ Fault) (o : Option ℕ) → and_then (ok_or o (fault TotalTooLarge Statistic place)) go ≡ stepped place go o
+then_stepped place go (Some u) = refl
+then_stepped place go None = refl
+
 -- ---- a loop over the roots: what is left gives the answer
 module _ (f : ℕ → ℤ) where
-  -- x is the root as the code has it, and o what the step answers
-  pub total_step : (k n t : ℕ) (x : ℤ) (o : Option ℕ) → n < k → x ≡ f n → o ≡ grown t x → stepped n (λ u. total_from f (n + 1) u (k - (n + 1))) o ≡ total_from f n t (k - n)
-  total_step k n t x o h e p =
+  -- x is the root as the code has it, and r what the step answers
+  pub total_step : (k n t : ℕ) (x : ℤ) (r : Result ℕ Fault) → n < k → x ≡ f n → r ≡ ok_or (grown t x) (fault TotalTooLarge Statistic n) → and_then r (λ u. total_from f (n + 1) u (k - (n + 1))) ≡ total_from f n t (k - n)
+  total_step k n t x r h e p =
       let left : k - n ≡ suc (k - (n + 1)) = omega arith in
-      sym (ap (total_from f n t) left ∙ ap (stepped n (λ u. total_from f (n + 1) u (k - (n + 1)))) (sym (p ∙ ap (grown t) e)))
+      let go : ℕ → Result ℕ Fault = λ u. total_from f (n + 1) u (k - (n + 1)) in
+      ap (λ q. and_then q go) p ∙ then_stepped n go (grown t x) ∙ sym (ap (total_from f n t) left ∙ ap (stepped n go) (sym (ap (grown t) e)))
 
   pub total_all : (k n t : ℕ) → k ≤ n → total_from f n t (k - n) ≡ Ok t
   total_all k n t h = let none : k - n ≡ 0 = omega arith in ap (total_from f n t) none

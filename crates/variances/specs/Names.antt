@@ -1,5 +1,7 @@
 -- The statistics by name.
-use Rattle.std.specs.Prelude.{◌≡◌, ℕ, List, Some, None, codes, Option, ◌≢◌}
+use Rattle.std.specs.Prelude.{◌≡◌, ℕ, List, Ok, Err, codes, Result, ◌≢◌}
+use Rattle.series.specs.declared.fault.Cause.{Cause}
+use Rattle.series.specs.declared.fault.Cause.TheVariants.{UnknownName}
 use Rattle.statistics.specs.Model.{Model}
 use Rattle.variances.specs.declared.name.Variance.{Variance}
 use Rattle.variances.specs.declared.name.Variance.TheVariants.{Avar}
@@ -11,7 +13,7 @@ name_of Avar = codes "avar"
 abbrev pub model_of : Variance → Model
 model_of Avar = avar
 
--- the statistic that a word names, or none
-abbrev pub Named : List ℕ → Option Variance → Type 0
-Named w (Some v) = w ≡ name_of v
-Named w None = (v : Variance) → w ≢ name_of v
+-- the statistic that a word names, or a refusal where it names none
+abbrev pub Named : List ℕ → Result Variance Cause → Type 0
+Named w (Ok v) = w ≡ name_of v
+Named w (Err why) = ((v : Variance) → w ≢ name_of v) × (why ≡ UnknownName)

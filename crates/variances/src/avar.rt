@@ -48,14 +48,8 @@ fn sum_squares<S: Series>(s: &S, gap: usize) -> Result<u64, Fault>
 {
     let mut total = 0;
     for n in 0..s.length() - 2 * gap {
-        match grow(total, root(s, gap, n)?) {
-            Some(more) => total = more,
-            None => return Err(Fault {
-                cause: Cause::TotalTooLarge,
-                layer: Layer::Statistic,
-                place: n as u64,
-            }),
-        }
+        let grown = grow(total, root(s, gap, n)?);
+        total = grown.ok_or(Layer::Statistic.refusal(Cause::TotalTooLarge, n as u64))?;
     }
     Ok(total)
 }
@@ -67,10 +61,7 @@ impl Statistic for Avar {
 
     ghost model = { avar };
 
-    fn blind_to() -> Blindness
-        ensures model { result ≡ avar.formula.blindness }
-        ensures constant { result ≡ ⟦<Avar as Statistic>⟧.BLINDNESS }
-    {
+    fn blind_to() -> Blindness {
         Self::BLINDNESS
     }
 

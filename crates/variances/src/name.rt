@@ -1,6 +1,9 @@
 // The statistics by name.
-ghost use Rattle.std.specs.Prelude.{◌≡◌, Decides};
+ghost use Rattle.std.specs.Result.{result_ok, IsErr};
+ghost use Rattle.std.specs.Prelude.{◌≡◌};
 ghost use Rattle.variances.specs.Names.{Named};
+
+use series::fault::Cause;
 
 /// A statistic, chosen at run time.
 #[derive(Clone, Copy, PartialEq, Eq, Debug)]
@@ -9,18 +12,16 @@ pub enum Variance {
     Avar,
 }
 
-fn same(a: &[u8], b: &[u8]) -> bool
-    ensures { Decides result (a.now ≡ b.now) }
-{
-    a == b
-}
+/// The statistic that a word names, or why none.
+impl TryFrom<&[u8]> for Variance {
+    type Error = Cause;
 
-/// The statistic that a word names.
-pub fn named(word: &[u8]) -> Option<Variance>
-    ensures { Named word.now result }
-{
-    if same(word, b"avar") {
-        return Some(Variance::Avar);
+    ghost try_from_gives = { λ word r. Named word.now r };
+
+    fn try_from(word: &[u8]) -> Result<Variance, Cause> {
+        match word {
+            b"avar" => Ok(Variance::Avar),
+            _ => Err(Cause::UnknownName),
+        }
     }
-    None
 }
