@@ -18,7 +18,7 @@ mkdir -p "$copy/crates/misuse/src"
 compiled() {
     {
         echo '#![tactic(auto)]'
-        echo 'use bench::open_run::OpenRun;'
+        echo 'use bench::run::OpenRun;'
         echo 'use series::fault::Fault;'
         cat
         echo 'fn main(_rt: HostRuntime) {}'
@@ -53,7 +53,7 @@ RT
         echo "misuse: $name was taken on a released run"
         exit 1
     fi
-    if ! printf '%s\n' "$out" | grep -F "error[unknown-method]: no method named \`$name\` found for type \`ReleasedRun\`"; then
+    if ! printf '%s\n' "$out" | grep -F "error[unknown-method]: no method named \`$name\` found for type \`Run<Released>\`"; then
         printf '%s\n' "$out" | tail -n 20
         echo "misuse: $name on a released run was refused for another reason"
         exit 1

@@ -1,11 +1,7 @@
--- The samples that a run holds.
+-- The samples that a run holds, in either state.
 use Rattle.std.specs.Prelude.{List, ℤ}
 use Rattle.series.specs.Listed.{held}
-use Rattle.bench.specs.declared.open_run.OpenRun.{OpenRun}
-use Rattle.bench.specs.declared.released_run.ReleasedRun.{ReleasedRun}
+use Rattle.bench.specs.declared.run.Run.{Run}
 
-abbrev pub held_open : OpenRun → List ℤ
-held_open r = held r.store
-
-abbrev pub held_released : ReleasedRun → List ℤ
-held_released r = held r.store
+abbrev pub held_by : {State : _} → Run State → List ℤ
+held_by r = held r.store

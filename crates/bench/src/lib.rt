@@ -1,5 +1,4 @@
 //! The bench: an open run that takes samples, and a released run that takes none.
 #![tactic(auto)]
 
-pub mod open_run;
-pub mod released_run;
+pub mod run;
