@@ -1,36 +1,29 @@
 // The job program: a text on standard input, its answers on standard output.
 #![tactic(auto)]
 
-ghost use Rattle.std.specs.Prelude.{◌≤◌, length, IfOk};
+ghost use Rattle.std.specs.Prelude.{◌≡◌, IfSome, take, IfOk};
 
 use job_text::report::print_out;
 use job_text::whole::{MOST, work_text};
+use std::alloc::Global;
 use std::io;
 use std::io::Read;
 
 // One byte more than a job text has at most, so that a longer one is seen to be too long.
 const ROOM: usize = MOST + 1;
 
-// Reads to the end of the input or of the buffer: how many bytes there are now.
-fn fill<R: Read>(input: &mut R, buffer: &mut [u8]) -> io::Result<usize>
-    ensures { IfOk result (λ n. n ≤ length buffer.old) }
+// The bytes of the input, to its end or as many as there is room for.
+fn text_of<R: Read + Drop>(heap: Global, input: R) -> io::Result<Vec<u8>>
+    ensures { IfSome (R.remaining input) (λ bytes. IfOk result (λ text. text.items ≡ take 65537 bytes)) }
 {
-    let mut count = 0;
-    while count < buffer.len() {
-        let more = input.read(&mut buffer[count..])?;
-        if more == 0 {
-            return Ok(count);
-        }
-        count += more;
-    }
-    Ok(count)
+    let mut text = Vec::new(heap);
+    input.take(ROOM as u64).read_to_end(&mut text)?;
+    Ok(text)
 }
 
 fn main(rt: HostRuntime) -> io::Result<()> {
-    let mut buffer = [0u8; ROOM];
-    let mut input = rt.stdin();
-    let count = fill(&mut input, &mut buffer)?;
-    let answers = work_text(rt.alloc(), &buffer[0..count])?;
+    let text = text_of(rt.alloc(), rt.stdin())?;
+    let answers = work_text(rt.alloc(), text.as_slice())?;
     let out = print_out(rt.alloc(), answers.as_slice())?;
     rt.print(out.as_str())
 }
