@@ -20,7 +20,7 @@ first_line b (x ∷ xs) =
     first_byte (eqb b 10) b (prefix_len in_line (x ∷ xs)) (x ∷ xs)
     (ap (prepend b) (first_line x xs) ∙ sym (one_longer b (prefix_len in_line (x ∷ xs)) (x ∷ xs)))
 
-first_of : (bs : List ℕ) → 0 < length bs → lines_of bs ≡ take (prefix_len in_line bs) bs ∷ lines_of (drop (prefix_len in_line bs + 1) bs)
+pub first_of : (bs : List ℕ) → 0 < length bs → lines_of bs ≡ take (prefix_len in_line bs) bs ∷ lines_of (drop (prefix_len in_line bs + 1) bs)
 first_of [] h = absurd (omega arith)
 first_of (b ∷ bs) h = first_line b bs
 
