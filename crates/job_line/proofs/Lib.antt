@@ -1,1 +1,1 @@
-pub mod LineEnds
+pub mod FirstLine

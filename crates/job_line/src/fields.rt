@@ -13,13 +13,13 @@ pub struct Fields<'a> {
 }
 
 impl<'a> Fields<'a> {
-    ghost use Rattle.std.specs.Prelude.{◌≡◌, ℕ, ◌+◌, ◌==◌, nat_lt, cond, take, drop, slice_index, OnErr};
+    ghost use Rattle.std.specs.Prelude.{◌≡◌, ◌+◌, ◌==◌, nat_lt, cond, take, drop, slice_index, OnErr};
     ghost use Rattle.std.specs.Result.{result_map_both};
-    ghost use Rattle.job_line.specs.Bytes.{is_digit, is_name, stands_at, run_at, run_length, fits64, value_of_digits};
+    ghost use Rattle.job_line.specs.Bytes.{stands_at};
     ghost use Rattle.job_line.specs.Grammar.{a_word, a_number, a_signed, field_at, next_at, end_at};
     ghost use Rattle.job_line.specs.Said.{told, token_says};
 
-    /// A line that is read from its first byte on.
+    /// A line of which nothing is read yet.
     pub fn new(line: &'a [u8]) -> Fields<'a>
         ensures line { result.line.now ≡ line.now }
         ensures place { result.place ≡ 0 }
@@ -47,10 +47,12 @@ impl<'a> Fields<'a> {
         stands
     }
 
-    /// The next `count` bytes, if that is one at least.
+    /// The next `count` bytes, of which there has to be one.
     fn run(&mut self, count: usize) -> Result<&'a [u8], Malformed>
         requires { self.old.place + count ≤ length self.old.line.now }
-        ensures is { told (λ run. run.now) result self.new.place ≡ cond (count == 0) (Err self.old.place) (Ok (take count (drop self.old.place self.old.line.now), self.old.place + count)) }
+        ensures is { told (λ run. run.now) result self.new.place
+            ≡ cond (count == 0) (Err self.old.place)
+            (Ok (take count (drop self.old.place self.old.line.now), self.old.place + count)) }
         ensures line { self.new.line ≡ self.old.line }
     {
         if count == 0 {
@@ -61,52 +63,47 @@ impl<'a> Fields<'a> {
         Ok(run)
     }
 
-    /// The number that digits write, if 64 bits hold it.
-    fn digits(&mut self) -> Result<Option<u64>, Malformed>
-        ensures is { told (λ size. size) result self.new.place ≡ cond (run_length is_digit self.old.line.now self.old.place == 0) (Err self.old.place) (Ok (fits64 (value_of_digits (run_at is_digit self.old.line.now self.old.place)), self.old.place + run_length is_digit self.old.line.now self.old.place)) }
-        ensures line { self.new.line ≡ self.old.line }
-    {
-        let digits = self.run(leading_digits(self.rest()))?;
-        Ok(value_of(digits))
-    }
-
     /// A number.
     fn unsigned(&mut self) -> Result<Token<'a>, Malformed>
-        ensures is { told token_says result self.new.place ≡ field_at Field.Number self.old.line.now self.old.place }
+        ensures is { told token_says result self.new.place
+            ≡ field_at Field.Number self.old.line.now self.old.place }
         ensures line { self.new.line ≡ self.old.line }
     {
         let first = self.place;
-        match self.digits()? {
-            Some(n) => Ok(Token::Number(n)),
-            None => Err(Malformed { place: first }),
-        }
+        let digits = self.run(leading_digits(self.rest()))?;
+        let number = value_of(digits).ok_or(Malformed { place: first })?;
+        Ok(Token::Number(number))
     }
 
     /// A number with or without a minus.
     fn signed(&mut self) -> Result<Token<'a>, Malformed>
-        ensures is { told token_says result self.new.place ≡ field_at Field.Sample self.old.line.now self.old.place }
+        ensures is { told token_says result self.new.place
+            ≡ field_at Field.Sample self.old.line.now self.old.place }
         ensures line { self.new.line ≡ self.old.line }
     {
         let first = self.place;
         let minus = self.passes(b'-');
-        match with_sign(minus, self.digits()?) {
-            Some(x) => Ok(Token::Signed(x)),
-            None => Err(Malformed { place: first }),
-        }
+        let digits = self.run(leading_digits(self.rest()))?;
+        let sample = value_of(digits)
+            .and_then(|size| with_sign(minus, size))
+            .ok_or(Malformed { place: first })?;
+        Ok(Token::Signed(sample))
     }
 
     /// A name.
     fn name(&mut self) -> Result<Token<'a>, Malformed>
-        ensures is { told token_says result self.new.place ≡ field_at Field.Name self.old.line.now self.old.place }
+        ensures is { told token_says result self.new.place
+            ≡ field_at Field.Name self.old.line.now self.old.place }
         ensures line { self.new.line ≡ self.old.line }
     {
         let name = self.run(leading_name(self.rest()))?;
         Ok(Token::Word(name))
     }
 
-    /// A space and a field.
+    /// A space and a field. A copy reads on, so that a refusal leaves the place as it was.
     fn token(&mut self, field: Field) -> Result<Token<'a>, Malformed>
-        ensures is { told token_says result self.new.place ≡ next_at field self.old.line.now self.old.place }
+        ensures is { told token_says result self.new.place
+            ≡ next_at field self.old.line.now self.old.place }
         ensures line { self.new.line ≡ self.old.line }
         ensures unmoved { OnErr result (self.new.place ≡ self.old.place) }
     {
@@ -125,7 +122,10 @@ impl<'a> Fields<'a> {
 
     /// The next byte.
     pub fn letter(&mut self) -> Result<u8, Malformed>
-        ensures is { told (λ b. b) result self.new.place ≡ cond (nat_lt self.old.place (length self.old.line.now)) (Ok (slice_index self.old.line.now self.old.place, self.old.place + 1)) (Err self.old.place) }
+        ensures is { told (λ b. b) result self.new.place
+            ≡ cond (nat_lt self.old.place (length self.old.line.now))
+            (Ok (slice_index self.old.line.now self.old.place, self.old.place + 1))
+            (Err self.old.place) }
         ensures line { self.new.line ≡ self.old.line }
         ensures unmoved { OnErr result (self.new.place ≡ self.old.place) }
     {
@@ -138,7 +138,8 @@ impl<'a> Fields<'a> {
 
     /// A space and a number.
     pub fn number(&mut self) -> Result<u64, Malformed>
-        ensures is { told a_number result self.new.place ≡ next_at Field.Number self.old.line.now self.old.place }
+        ensures is { told a_number result self.new.place
+            ≡ next_at Field.Number self.old.line.now self.old.place }
         ensures line { self.new.line ≡ self.old.line }
         ensures unmoved { OnErr result (self.new.place ≡ self.old.place) }
     {
@@ -150,7 +151,8 @@ impl<'a> Fields<'a> {
 
     /// A space and a sample.
     pub fn sample(&mut self) -> Result<i64, Malformed>
-        ensures is { told a_signed result self.new.place ≡ next_at Field.Sample self.old.line.now self.old.place }
+        ensures is { told a_signed result self.new.place
+            ≡ next_at Field.Sample self.old.line.now self.old.place }
         ensures line { self.new.line ≡ self.old.line }
         ensures unmoved { OnErr result (self.new.place ≡ self.old.place) }
     {
@@ -162,7 +164,8 @@ impl<'a> Fields<'a> {
 
     /// A space and a name.
     pub fn word(&mut self) -> Result<&'a [u8], Malformed>
-        ensures is { told (λ w. a_word w.now) result self.new.place ≡ next_at Field.Name self.old.line.now self.old.place }
+        ensures is { told (λ w. a_word w.now) result self.new.place
+            ≡ next_at Field.Name self.old.line.now self.old.place }
         ensures line { self.new.line ≡ self.old.line }
         ensures unmoved { OnErr result (self.new.place ≡ self.old.place) }
     {
@@ -172,9 +175,10 @@ impl<'a> Fields<'a> {
         Ok(w)
     }
 
-    /// Whether nothing more is to be read.
+    /// The end of the line: a refusal if more is still to be read.
     pub fn end(&self) -> Result<(), Malformed>
-        ensures { result_map_both (λ x. x) (λ e. e.place) result ≡ end_at self.now.line.now self.now.place }
+        ensures { result_map_both (λ done. done) (λ refusal. refusal.place) result
+            ≡ end_at self.now.line.now self.now.place }
     {
         if self.place < self.line.len() {
             return Err(Malformed { place: self.place });

@@ -23,14 +23,14 @@ pub fn line_end(text: &[u8], from: usize) -> usize
 }
 
 /// The lines of a text that are still to come.
-#[derive(Clone, Copy)]
+#[derive(Drop)]
 pub struct TextLines<'a> {
     pub rest: &'a [u8],
 }
 
 /// The lines of a text: a line feed ends a line, and the last may lack it.
 pub fn lines<'a>(text: &'a [u8]) -> TextLines<'a>
-    ensures { lines_of result.rest.now ≡ lines_of text.now }
+    ensures { result.rest.now ≡ text.now }
 {
     TextLines { rest: text }
 }

@@ -34,7 +34,7 @@ fn is_name(b: u8) -> bool
 }
 
 /// How many digits stand in front.
-pub fn leading_digits(bytes: &[u8]) -> usize
+pub(crate) fn leading_digits(bytes: &[u8]) -> usize
     ensures is { result ≡ prefix_len is_digit bytes.now }
     ensures within { result ≤ length bytes.now }
 {
@@ -42,7 +42,7 @@ pub fn leading_digits(bytes: &[u8]) -> usize
 }
 
 /// How many bytes of a name stand in front.
-pub fn leading_name(bytes: &[u8]) -> usize
+pub(crate) fn leading_name(bytes: &[u8]) -> usize
     ensures is { result ≡ prefix_len is_name bytes.now }
     ensures within { result ≤ length bytes.now }
 {
@@ -53,23 +53,24 @@ pub fn leading_name(bytes: &[u8]) -> usize
 fn with_digit(value: u64, b: u8) -> Option<u64>
     ensures { result ≡ fits64 (value * 10 + (b - 48)) }
 {
-    value.checked_mul(10)?.checked_add(u64::from(b.saturating_sub(b'0')))
+    let digit = u64::from(b.saturating_sub(b'0'));
+    value.checked_mul(10)?.checked_add(digit)
 }
 
 /// The number that the digits write, if 64 bits hold it.
-pub fn value_of(digits: &[u8]) -> Option<u64>
+pub(crate) fn value_of(digits: &[u8]) -> Option<u64>
     ensures { result ≡ fits64 (value_of_digits digits.now) }
 {
     digits.iter().try_fold(0, |value, b| with_digit(value, *b))
 }
 
 /// The number with or without a minus, if 64 bits hold it as a signed number.
-pub fn with_sign(minus: bool, size: Option<u64>) -> Option<i64>
-    ensures { (v : ℕ) → size ≡ fits64 v → result ≡ fits64_signed minus v }
+pub(crate) fn with_sign(minus: bool, size: u64) -> Option<i64>
+    ensures { result ≡ fits64_signed minus size }
 {
     if minus {
-        0i64.checked_sub_unsigned(size?)
+        0i64.checked_sub_unsigned(size)
     } else {
-        0i64.checked_add_unsigned(size?)
+        0i64.checked_add_unsigned(size)
     }
 }
