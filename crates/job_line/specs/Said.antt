@@ -5,6 +5,7 @@ use Rattle.job_line.specs.declared.tokens.Token.{Token}
 use Rattle.job_line.specs.declared.tokens.Token.TheVariants.{Word, Number, Signed}
 use Rattle.job_line.specs.declared.lines.Line.{Line}
 use Rattle.job_line.specs.declared.lines.Line.TheVariants.{Add, Strike, Part, ReadOut, Release}
+use Rattle.job_line.specs.declared.malformed.Malformed.{Malformed}
 
 -- what a token says
 abbrev pub token_says : Token → Said
@@ -20,12 +21,12 @@ line_says (Part name m j) = (80, a_word name.now ∷ a_number m ∷ a_number j �
 line_says (ReadOut name m) = (86, a_word name.now ∷ a_number m ∷ [])
 line_says Release = (82, [])
 
--- a reader's answer, in what it says
-abbrev pub told : {A : Type 0} → (A → Said) → Result (A × ℕ) ℕ → Result (Said × ℕ) ℕ
-told says (Ok one) = Ok (says one.0, one.1)
-told says (Err place) = Err place
+-- a reader's answer and the place after it, in what it says
+abbrev pub told : {A B : Type 0} → (A → B) → Result A Malformed → ℕ → Result (B × ℕ) ℕ
+told says (Ok x) after = Ok (says x, after)
+told says (Err refusal) after = Err refusal.place
 
 -- the answer of the whole line, in what it says
-abbrev pub told_line : Result Line ℕ → Result (ℕ × List Said) ℕ
+abbrev pub told_line : Result Line Malformed → Result (ℕ × List Said) ℕ
 told_line (Ok line) = Ok (line_says line)
-told_line (Err place) = Err place
+told_line (Err refusal) = Err refusal.place

@@ -1,7 +1,9 @@
 //! One line of a job: its grammar and its parser; and the lines of a text.
 #![tactic(auto)]
 
+pub mod fields;
 pub mod lines;
+pub mod malformed;
 pub mod text;
 pub mod tokens;
 
@@ -11,7 +13,7 @@ mod tests {
     use super::text::line_end;
 
     fn refused(line: &[u8]) -> Option<usize> {
-        parse(line).err()
+        parse(line).err().map(|e| e.place)
     }
 
     #[test]
