@@ -2,10 +2,9 @@
 ghost use Rattle.std.specs.Prelude.{Some};
 ghost use Rattle.job_text.specs.Shown.{shown_answer};
 
-use series::fault::Fault;
 use std::fmt;
 
-/// The answer to a line.
+/// The answer to a line that is not refused.
 #[derive(Clone, Copy, PartialEq, Debug)]
 pub enum Answer {
     /// the count held after an add
@@ -17,7 +16,6 @@ pub enum Answer {
     /// the total and the divisor of a part
     Part((u64, u64)),
     ReadOut(u64),
-    Refused(Fault),
 }
 
 impl fmt::Display for Answer {
@@ -30,12 +28,6 @@ impl fmt::Display for Answer {
             Answer::Released(count) => write!(f, "R {count}"),
             Answer::Part((total, divisor)) => write!(f, "P {total} {divisor}"),
             Answer::ReadOut(read_out) => write!(f, "V {read_out}"),
-            Answer::Refused(fault) => {
-                let cause = fault.cause.number();
-                let layer = fault.layer.number();
-                let place = fault.place;
-                write!(f, "! {cause} {layer} {place}")
-            }
         }
     }
 }

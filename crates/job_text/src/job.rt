@@ -1,21 +1,22 @@
 // A job, worked line by line.
-ghost use Rattle.std.specs.Prelude.{◌≡◌, IfOk};
+ghost use Rattle.std.specs.Prelude.{◌≡◌, Ok, Err, IfOk};
+ghost use Rattle.series.specs.declared.fault.Cause.TheVariants.{UnknownName};
 ghost use Rattle.series.specs.declared.fault.Layer.TheVariants.{Bench};
 ghost use Rattle.series.specs.Faults.{fault};
 ghost use Rattle.variances.specs.Names.{model_of};
 ghost use Rattle.bench.specs.Calls.{PartAnswered, ReadAnswered};
-ghost use Rattle.job_text.specs.Jobs.{stage_of, fresh, Does, Worked};
+ghost use Rattle.bench.specs.Runs.{held_by};
+ghost use Rattle.job_text.specs.Jobs.{stage_of, fresh, Asked, Does, Worked};
 ghost use Rattle.job_line.specs.declared.lines.Line.{Line as SaidLine};
 
 use crate::answer::Answer;
-use bench::open_run::OpenRun;
-use bench::released_run::ReleasedRun;
+use bench::run::{OpenRun, ReleasedRun, Run};
 use job_line::lines::{Line, parse};
 use series::fault::{Cause, Fault, Layer};
 use series::form::Series;
 use std::alloc::{AllocError, Global};
 use variances::avar::Avar;
-use variances::name::{Variance, named};
+use variances::name::Variance;
 
 /// A job's run, which is open until it is released.
 #[derive(Drop)]
@@ -24,15 +25,34 @@ pub enum Job {
     Released(ReleasedRun),
 }
 
-// A refusal by the job itself.
-fn refused(cause: Cause, place: u64) -> Answer
-    ensures { result ≡ Answer.Refused (fault cause Bench place) }
+// The statistic that a word names, or the job's refusal.
+fn statistic(name: &[u8]) -> Result<Variance, Fault>
+    ensures { Asked name.now result }
 {
-    Answer::Refused(Fault {
-        cause,
-        layer: Layer::Bench,
-        place,
-    })
+    Variance::try_from(name).map_err(|why| Layer::Bench.refusal(why, 0))
+}
+
+// The part of a statistic.
+fn part_of<State>(
+    run: &Run<State>,
+    which: Variance,
+    factor: u64,
+    number: u64,
+) -> Result<(u64, u64), Fault>
+    ensures { PartAnswered (held_by run.now) (model_of which) factor number result (held_by run.now) }
+{
+    match which {
+        Variance::Avar => run.part::<Avar>(factor, number),
+    }
+}
+
+// The read-out of a statistic.
+fn read_out_of<State>(run: &Run<State>, which: Variance, factor: u64) -> Result<u64, Fault>
+    ensures { ReadAnswered (held_by run.now) (model_of which) factor result (held_by run.now) }
+{
+    match which {
+        Variance::Avar => run.read_out::<Avar>(factor),
+    }
 }
 
 impl Job {
@@ -44,104 +64,75 @@ impl Job {
         Ok(Job::Open(run))
     }
 
-    fn add(self, sample: i64) -> (Job, Answer)
+    fn add(self, sample: i64) -> (Job, Result<Answer, Fault>)
         ensures { Does (stage_of self) (SaidLine.Add sample) result.1 (stage_of result.0) }
     {
         match self {
-            Job::Open(run) => {
-                let mut run = run;
-                let answer = match run.add(sample) {
-                    Ok(count) => Answer::Added(count),
-                    Err(fault) => Answer::Refused(fault),
-                };
-                (Job::Open(run), answer)
+            Job::Open(mut run) => {
+                let count = run.add(sample);
+                (Job::Open(run), count.map(Answer::Added))
             }
-            Job::Released(run) => (Job::Released(run), refused(Cause::NotInThisState, 0)),
+            released => (
+                released,
+                Err(Layer::Bench.refusal(Cause::NotInThisState, 0)),
+            ),
         }
     }
 
-    fn strike(self) -> (Job, Answer)
+    fn strike(self) -> (Job, Result<Answer, Fault>)
         ensures { Does (stage_of self) SaidLine.Strike result.1 (stage_of result.0) }
     {
         match self {
-            Job::Open(run) => {
-                let mut run = run;
-                let answer = match run.strike() {
-                    Ok(count) => Answer::Struck(count),
-                    Err(fault) => Answer::Refused(fault),
-                };
-                (Job::Open(run), answer)
+            Job::Open(mut run) => {
+                let count = run.strike();
+                (Job::Open(run), count.map(Answer::Struck))
             }
-            Job::Released(run) => (Job::Released(run), refused(Cause::NotInThisState, 0)),
+            released => (
+                released,
+                Err(Layer::Bench.refusal(Cause::NotInThisState, 0)),
+            ),
         }
     }
 
-    fn release(self) -> (Job, Answer)
+    fn release(self) -> (Job, Result<Answer, Fault>)
         ensures { Does (stage_of self) SaidLine.Release result.1 (stage_of result.0) }
     {
         match self {
             Job::Open(run) => {
                 let count = run.length();
-                (Job::Released(run.release()), Answer::Released(count))
+                (Job::Released(run.release()), Ok(Answer::Released(count)))
             }
-            Job::Released(run) => (Job::Released(run), refused(Cause::NotInThisState, 0)),
+            released => (
+                released,
+                Err(Layer::Bench.refusal(Cause::NotInThisState, 0)),
+            ),
         }
     }
 
-    // The part of a statistic.
-    fn part_of(&self, which: Variance, factor: u64, number: u64) -> Result<(u64, u64), Fault>
-        ensures { PartAnswered (stage_of self.now).held (model_of which) factor number result (stage_of self.now).held }
-    {
-        match self {
-            Job::Open(run) => match which {
-                Variance::Avar => run.part::<Avar>(factor, number),
-            },
-            Job::Released(run) => match which {
-                Variance::Avar => run.part::<Avar>(factor, number),
-            },
-        }
-    }
-
-    // The read-out of a statistic.
-    fn read_out_of(&self, which: Variance, factor: u64) -> Result<u64, Fault>
-        ensures { ReadAnswered (stage_of self.now).held (model_of which) factor result (stage_of self.now).held }
-    {
-        match self {
-            Job::Open(run) => match which {
-                Variance::Avar => run.read_out::<Avar>(factor),
-            },
-            Job::Released(run) => match which {
-                Variance::Avar => run.read_out::<Avar>(factor),
-            },
-        }
-    }
-
-    fn part(&self, name: &[u8], factor: u64, number: u64) -> Answer
+    fn part(&self, name: &[u8], factor: u64, number: u64) -> Result<Answer, Fault>
         ensures { Does (stage_of self.now) (SaidLine.Part name.entry factor number) result (stage_of self.now) }
     {
-        match named(name) {
-            Some(which) => match self.part_of(which, factor, number) {
-                Ok(pair) => Answer::Part(pair),
-                Err(fault) => Answer::Refused(fault),
-            },
-            None => refused(Cause::UnknownName, 0),
-        }
+        let which = statistic(name)?;
+        let pair = match self {
+            Job::Open(run) => part_of(run, which, factor, number),
+            Job::Released(run) => part_of(run, which, factor, number),
+        };
+        pair.map(Answer::Part)
     }
 
-    fn read_out(&self, name: &[u8], factor: u64) -> Answer
+    fn read_out(&self, name: &[u8], factor: u64) -> Result<Answer, Fault>
         ensures { Does (stage_of self.now) (SaidLine.ReadOut name.entry factor) result (stage_of self.now) }
     {
-        match named(name) {
-            Some(which) => match self.read_out_of(which, factor) {
-                Ok(read_out) => Answer::ReadOut(read_out),
-                Err(fault) => Answer::Refused(fault),
-            },
-            None => refused(Cause::UnknownName, 0),
-        }
+        let which = statistic(name)?;
+        let read_out = match self {
+            Job::Open(run) => read_out_of(run, which, factor),
+            Job::Released(run) => read_out_of(run, which, factor),
+        };
+        read_out.map(Answer::ReadOut)
     }
 
     // What a formed line says.
-    fn obey(self, line: Line<'_>) -> (Job, Answer)
+    fn obey(self, line: Line<'_>) -> (Job, Result<Answer, Fault>)
         ensures { Does (stage_of self) line.entry result.1 (stage_of result.0) }
     {
         match line {
@@ -159,13 +150,16 @@ impl Job {
         }
     }
 
-    /// Works one line: the job after it, and the answer.
-    pub fn work(self, line: &[u8]) -> (Job, Answer)
+    /// Works one line: the job after it, and the answer or why it is refused.
+    pub fn work(self, line: &[u8]) -> (Job, Result<Answer, Fault>)
         ensures { Worked (stage_of self) line.now result.1 (stage_of result.0) }
     {
         match parse(line) {
             Ok(said) => self.obey(said),
-            Err(place) => (self, refused(Cause::MalformedLine, place as u64)),
+            Err(malformed) => {
+                let place = malformed.place as u64;
+                (self, Err(Layer::Bench.refusal(Cause::MalformedLine, place)))
+            }
         }
     }
 }
