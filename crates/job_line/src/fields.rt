@@ -1,6 +1,4 @@
 // The fields of a job line.
-ghost use Rattle.std.specs.Prelude.{◌≤◌, length};
-
 use crate::malformed::Malformed;
 use crate::tokens::{Field, Token, leading_digits, leading_name, value_of, with_sign};
 
@@ -9,11 +7,10 @@ use crate::tokens::{Field, Token, leading_digits, leading_name, value_of, with_s
 pub struct Fields<'a> {
     pub line: &'a [u8],
     pub place: usize,
-    ghost within: { place ≤ length line.now },
 }
 
 impl<'a> Fields<'a> {
-    ghost use Rattle.std.specs.Prelude.{◌≡◌, ◌+◌, ◌==◌, nat_lt, cond, take, drop, slice_index, OnErr};
+    ghost use Rattle.std.specs.Prelude.{◌≡◌, ◌≤◌, length, ◌+◌, ◌==◌, nat_lt, cond, take, drop, slice_index, OnErr};
     ghost use Rattle.std.specs.Result.{result_map_both};
     ghost use Rattle.job_line.specs.Bytes.{stands_at};
     ghost use Rattle.job_line.specs.Grammar.{a_word, a_number, a_signed, field_at, next_at, end_at};
@@ -31,7 +28,7 @@ impl<'a> Fields<'a> {
     fn rest(&self) -> &'a [u8]
         ensures { result.now ≡ drop self.now.place self.now.line.now }
     {
-        &self.line[self.place..]
+        self.line.get(self.place..).unwrap_or(&[])
     }
 
     /// Whether the byte `b` stands next; it is passed if so.
@@ -49,7 +46,7 @@ impl<'a> Fields<'a> {
 
     /// The next `count` bytes, of which there has to be one.
     fn run(&mut self, count: usize) -> Result<&'a [u8], Malformed>
-        requires { self.old.place + count ≤ length self.old.line.now }
+        requires { count ≤ length (drop self.old.place self.old.line.now) }
         ensures is { told (λ run. run.now) result self.new.place
             ≡ cond (count == 0) (Err self.old.place)
             (Ok (take count (drop self.old.place self.old.line.now), self.old.place + count)) }
