@@ -9,43 +9,41 @@ use series::form::Series;
 use series::packed::Packed;
 use statistics::part::part;
 use statistics::read_out::read_out;
-use std::fs;
+use std::{fs, io};
 use variances::avar::Avar;
 
 // One stored job.
-fn work_job(rt: &HostRuntime, name: &str) -> anyhow::Result<()> {
+fn work_job(rt: &HostRuntime, name: &str) -> io::Result<()> {
     let text = fs::read(rt, name)?;
     let answers = work_text(rt.alloc(), text.as_slice())?;
     let out = print_out(rt.alloc(), answers.as_slice())?;
-    rt.print(out.as_str())?;
-    Ok(())
+    rt.print(out.as_str())
 }
 
-fn print_sample(rt: &HostRuntime, answer: Result<i64, Fault>) -> anyhow::Result<()> {
+// A sample, or why there is none.
+fn print_sample(rt: &HostRuntime, answer: Result<i64, Fault>) -> io::Result<()> {
     match answer {
-        Ok(sample) => println!(rt; "X {sample}")?,
-        Err(fault) => println!(rt; "{}", Answer::Refused(fault))?,
+        Ok(sample) => println!(rt; "X {sample}"),
+        Err(fault) => println!(rt; "{fault}"),
     }
-    Ok(())
+}
+
+// An answer, or why it is refused.
+fn print_answer(rt: &HostRuntime, answer: Result<Answer, Fault>) -> io::Result<()> {
+    match answer {
+        Ok(answer) => println!(rt; "{answer}"),
+        Err(fault) => println!(rt; "{fault}"),
+    }
 }
 
 // Part 1 and the read-out of avar at a factor.
-fn print_figures<S: Series>(rt: &HostRuntime, s: &S, factor: u64) -> anyhow::Result<()> {
-    let part = match part::<Avar, S>(s, factor, 1) {
-        Ok(pair) => Answer::Part(pair),
-        Err(fault) => Answer::Refused(fault),
-    };
-    let figure = match read_out::<Avar, S>(s, factor) {
-        Ok(figure) => Answer::ReadOut(figure),
-        Err(fault) => Answer::Refused(fault),
-    };
-    println!(rt; "{part}")?;
-    println!(rt; "{figure}")?;
-    Ok(())
+fn print_figures<S: Series>(rt: &HostRuntime, s: &S, factor: u64) -> io::Result<()> {
+    print_answer(rt, part::<Avar, S>(s, factor, 1).map(Answer::Part))?;
+    print_answer(rt, read_out::<Avar, S>(s, factor).map(Answer::ReadOut))
 }
 
 // The count and the reach, the first samples and two places past the last, and figures at the factors 0 to 4.
-fn print_series<S: Series>(rt: &HostRuntime, s: &S) -> anyhow::Result<()> {
+fn print_series<S: Series>(rt: &HostRuntime, s: &S) -> io::Result<()> {
     let length = s.length();
     let reach = s.reach();
     println!(rt; "N {length} {reach}")?;
@@ -61,18 +59,15 @@ fn print_series<S: Series>(rt: &HostRuntime, s: &S) -> anyhow::Result<()> {
 }
 
 // One store of packed samples.
-fn work_packed(rt: &HostRuntime, name: &str) -> anyhow::Result<()> {
+fn work_packed(rt: &HostRuntime, name: &str) -> io::Result<()> {
     let bytes = fs::read(rt, name)?;
     match Packed::new(bytes.as_slice()) {
         Ok(s) => print_series(rt, &&s),
-        Err(fault) => {
-            println!(rt; "{}", Answer::Refused(fault))?;
-            Ok(())
-        }
+        Err(fault) => println!(rt; "{fault}"),
     }
 }
 
-fn run(rt: &HostRuntime) -> anyhow::Result<()> {
+fn run(rt: &HostRuntime) -> io::Result<()> {
     let jobs = fs::read_to_string(rt, "jobs.txt")?;
     for name in jobs.as_str().lines() {
         println!(rt; "== {name}")?;
@@ -86,6 +81,6 @@ fn run(rt: &HostRuntime) -> anyhow::Result<()> {
     Ok(())
 }
 
-fn main(rt: HostRuntime) -> anyhow::Result<()> {
+fn main(rt: HostRuntime) -> io::Result<()> {
     run(&rt)
 }

@@ -2,75 +2,44 @@
 use crate::nested::{mirrored_differences, mirrored_window, nested_sample};
 use crate::probe::Probe;
 use crate::show::{show, show_sample};
-use layers::differences::Differences;
 use layers::window::Window;
-use mirrors::even_mirror::EvenMirror;
-use mirrors::odd_mirror::OddMirror;
+use series::fault::Fault;
 use series::form::{FARTHEST, LONGEST, Series};
-use trend::detrended::Detrended;
+use std::io;
 
-/// A layer that asks for nothing but a series.
-#[derive(Clone, Copy)]
-pub(crate) enum Kind {
-    Differences,
-    OddMirror,
-    Detrended,
-    EvenMirror,
-}
-
-fn over_one(rt: &HostRuntime, kind: Kind, length: usize, reach: u64) -> anyhow::Result<()> {
-    let s = Probe::new(length, reach);
-    match kind {
-        Kind::Differences => {
-            println!(rt; "== differences {length} {reach}")?;
-            show(rt, Differences::new(&s))
-        }
-        Kind::OddMirror => {
-            println!(rt; "== odd {length} {reach}")?;
-            show(rt, OddMirror::new(&s))
-        }
-        Kind::Detrended => {
-            println!(rt; "== detrended {length} {reach}")?;
-            show(rt, Detrended::new(&s))
-        }
-        Kind::EvenMirror => {
-            println!(rt; "== even {length} {reach}")?;
-            show(rt, EvenMirror::new(&s))
-        }
-    }
-}
-
-fn over_reaches(
+fn over_reaches<L: Series + Drop, F: Fn(Probe) -> Result<L, Fault>>(
     rt: &HostRuntime,
-    kind: Kind,
+    name: &str,
+    make: &F,
     length: usize,
     reaches: &[u64],
-) -> anyhow::Result<()> {
+) -> io::Result<()>
+    requires { F.IsAlwaysCallable make.now }
+{
     for reach in reaches {
-        over_one(rt, kind, length, *reach)?;
+        println!(rt; "== {name} {length} {reach}")?;
+        show(rt, make(Probe::new(length, *reach)))?;
     }
     Ok(())
 }
 
-/// A layer at every length with every reach.
-pub(crate) fn over_lengths(
+/// A layer that asks for nothing but a series, at every length with every reach.
+pub(crate) fn over_lengths<L: Series + Drop, F: Fn(Probe) -> Result<L, Fault>>(
     rt: &HostRuntime,
-    kind: Kind,
+    name: &str,
+    make: &F,
     lengths: &[usize],
     reaches: &[u64],
-) -> anyhow::Result<()> {
+) -> io::Result<()>
+    requires { F.IsAlwaysCallable make.now }
+{
     for length in lengths {
-        over_reaches(rt, kind, *length, reaches)?;
+        over_reaches(rt, name, make, *length, reaches)?;
     }
     Ok(())
 }
 
-fn counted_windows(
-    rt: &HostRuntime,
-    s: &Probe,
-    first: usize,
-    counts: &[usize],
-) -> anyhow::Result<()> {
+fn counted_windows(rt: &HostRuntime, s: &Probe, first: usize, counts: &[usize]) -> io::Result<()> {
     let length = s.length();
     let reach = s.reach();
     for count in counts {
@@ -85,7 +54,7 @@ fn placed_windows(
     s: &Probe,
     firsts: &[usize],
     counts: &[usize],
-) -> anyhow::Result<()> {
+) -> io::Result<()> {
     for first in firsts {
         counted_windows(rt, s, *first, counts)?;
     }
@@ -93,7 +62,7 @@ fn placed_windows(
 }
 
 /// Windows of every place and count, near the length and near the largest numbers.
-pub(crate) fn windows(rt: &HostRuntime) -> anyhow::Result<()> {
+pub(crate) fn windows(rt: &HostRuntime) -> io::Result<()> {
     for length in [0, 1, 10] {
         let s = Probe::new(length, 100);
         placed_windows(rt, &s, &[0, 1, 3, 9, 10, 11], &[0, 1, 4, 9, 10, 11])?;
@@ -110,12 +79,7 @@ pub(crate) fn windows(rt: &HostRuntime) -> anyhow::Result<()> {
     placed_windows(rt, &ten, &[0, 1, half, usize::MAX], &[1, half, usize::MAX])
 }
 
-fn nested_samples(
-    rt: &HostRuntime,
-    length: usize,
-    first: usize,
-    count: usize,
-) -> anyhow::Result<()> {
+fn nested_samples(rt: &HostRuntime, length: usize, first: usize, count: usize) -> io::Result<()> {
     let s = Probe::new(length, 1_048_576);
     for place in [0, count, count.saturating_mul(3)] {
         println!(rt; "== sample {length} {first} {count} {place}")?;
@@ -124,7 +88,7 @@ fn nested_samples(
     Ok(())
 }
 
-fn counted_nests(rt: &HostRuntime, length: usize, first: usize) -> anyhow::Result<()> {
+fn counted_nests(rt: &HostRuntime, length: usize, first: usize) -> io::Result<()> {
     let s = Probe::new(length, 1_048_576);
     for count in [0, 1, 2, 3, 6, 9, 13, 96, 161, 162, 228, 229] {
         println!(rt; "== nest {length} {first} {count}")?;
@@ -136,7 +100,7 @@ fn counted_nests(rt: &HostRuntime, length: usize, first: usize) -> anyhow::Resul
     Ok(())
 }
 
-fn placed_nests(rt: &HostRuntime, length: usize) -> anyhow::Result<()> {
+fn placed_nests(rt: &HostRuntime, length: usize) -> io::Result<()> {
     for first in [0, 1, 7, 17, 204] {
         counted_nests(rt, length, first)?;
     }
@@ -144,7 +108,7 @@ fn placed_nests(rt: &HostRuntime, length: usize) -> anyhow::Result<()> {
 }
 
 /// Windows without their trend between even mirrors, of samples and of differences.
-pub(crate) fn nests(rt: &HostRuntime) -> anyhow::Result<()> {
+pub(crate) fn nests(rt: &HostRuntime) -> io::Result<()> {
     placed_nests(rt, 20)?;
     placed_nests(rt, 300)
 }

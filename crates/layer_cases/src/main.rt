@@ -7,30 +7,38 @@ mod probe;
 mod show;
 mod stores;
 
-use cases::{Kind, nests, over_lengths, windows};
+use cases::{nests, over_lengths, windows};
+use layers::differences::Differences;
+use mirrors::even_mirror::EvenMirror;
+use mirrors::odd_mirror::OddMirror;
 use series::form::FARTHEST;
+use std::io;
 use stores::over_stores;
+use trend::detrended::Detrended;
 
 // the reach of a run and of packed bytes
 const RUN: u64 = 1_048_576;
 
 // Lengths and reaches on both sides of every edge.
-fn one_by_one(rt: &HostRuntime) -> anyhow::Result<()> {
+fn one_by_one(rt: &HostRuntime) -> io::Result<()> {
     over_lengths(
         rt,
-        Kind::Differences,
+        "differences",
+        &Differences::new,
         &[0, 1, 2, 3, 4, 12287, 12288],
         &[0, 1, RUN, FARTHEST / 2, FARTHEST / 2 + 1, FARTHEST],
     )?;
     over_lengths(
         rt,
-        Kind::OddMirror,
+        "odd",
+        &OddMirror::new,
         &[0, 2, 3, 4, 5, 8, 4096, 4097, 4098, 12288],
         &[0, RUN, FARTHEST / 3, FARTHEST / 3 + 1],
     )?;
     over_lengths(
         rt,
-        Kind::Detrended,
+        "detrended",
+        &Detrended::new,
         &[0, 1, 2, 3, 4, 5, 6, 7, 227, 228, 229, 12287, 12288],
         &[
             0,
@@ -45,19 +53,20 @@ fn one_by_one(rt: &HostRuntime) -> anyhow::Result<()> {
     )?;
     over_lengths(
         rt,
-        Kind::EvenMirror,
+        "even",
+        &EvenMirror::new,
         &[0, 1, 2, 3, 4, 4095, 4096, 4097, 12288],
         &[0, RUN, FARTHEST],
     )
 }
 
-fn run(rt: &HostRuntime) -> anyhow::Result<()> {
+fn run(rt: &HostRuntime) -> io::Result<()> {
     windows(rt)?;
     one_by_one(rt)?;
     nests(rt)?;
     over_stores(rt)
 }
 
-fn main(rt: HostRuntime) -> anyhow::Result<()> {
+fn main(rt: HostRuntime) -> io::Result<()> {
     run(&rt)
 }

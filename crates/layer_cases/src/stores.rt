@@ -1,8 +1,7 @@
 // Layers over packed bytes and over a run.
 use crate::nested::{mirrored_differences, mirrored_window};
 use crate::show::show;
-use anyhow::anyhow;
-use bench::open_run::OpenRun;
+use bench::run::OpenRun;
 use layers::differences::Differences;
 use layers::window::Window;
 use mirrors::even_mirror::EvenMirror;
@@ -10,6 +9,7 @@ use mirrors::odd_mirror::OddMirror;
 use series::fault::Fault;
 use series::form::Series;
 use series::packed::Packed;
+use std::io;
 use trend::detrended::Detrended;
 
 const FIVE_DAYS: [i32; 5] = [108, 50, 220, 468, 329];
@@ -27,12 +27,12 @@ fn titled<L: Series + Drop>(
     name: &str,
     what: &str,
     made: Result<L, Fault>,
-) -> anyhow::Result<()> {
+) -> io::Result<()> {
     println!(rt; "== {name} {what}")?;
     show(rt, made)
 }
 
-fn alone<S: Series>(rt: &HostRuntime, name: &str, s: &S) -> anyhow::Result<()> {
+fn alone<S: Series>(rt: &HostRuntime, name: &str, s: &S) -> io::Result<()> {
     titled(rt, name, "window", Window::new(s, 1, 3))?;
     titled(rt, name, "differences", Differences::new(s))?;
     titled(rt, name, "odd", OddMirror::new(s))?;
@@ -40,7 +40,7 @@ fn alone<S: Series>(rt: &HostRuntime, name: &str, s: &S) -> anyhow::Result<()> {
     titled(rt, name, "even", EvenMirror::new(s))
 }
 
-fn over_one_another<S: Series>(rt: &HostRuntime, name: &str, s: &S) -> anyhow::Result<()> {
+fn over_one_another<S: Series>(rt: &HostRuntime, name: &str, s: &S) -> io::Result<()> {
     titled(rt, name, "nest", mirrored_window(s, 2, 3))?;
     titled(
         rt,
@@ -51,26 +51,22 @@ fn over_one_another<S: Series>(rt: &HostRuntime, name: &str, s: &S) -> anyhow::R
     titled(rt, name, "odd of even", odd_of_even(s))
 }
 
-fn over_series<S: Series>(rt: &HostRuntime, name: &str, s: &S) -> anyhow::Result<()> {
+fn over_series<S: Series>(rt: &HostRuntime, name: &str, s: &S) -> io::Result<()> {
     alone(rt, name, s)?;
     over_one_another(rt, name, s)
 }
 
-fn over_packed(rt: &HostRuntime, name: &str, samples: &[i32]) -> anyhow::Result<()> {
-    let mut bytes = Vec::new(rt.alloc());
-    for sample in samples {
-        for byte in sample.to_le_bytes() {
-            bytes.push(byte)?;
-        }
-    }
+fn over_packed(rt: &HostRuntime, name: &str, samples: &[i32]) -> io::Result<()> {
+    let bytes = samples.iter().flat_map(|sample| sample.to_le_bytes());
+    let bytes = bytes.collect::<Vec<u8>>(rt.alloc())?;
     match Packed::new(bytes.as_slice()) {
         // a lent series, lent
         Ok(s) => over_series(rt, name, &&s),
-        Err(_) => Err(anyhow!("bytes were refused")),
+        Err(fault) => println!(rt; "{fault}"),
     }
 }
 
-fn over_run(rt: &HostRuntime, name: &str, samples: &[i32]) -> anyhow::Result<()> {
+fn over_run(rt: &HostRuntime, name: &str, samples: &[i32]) -> io::Result<()> {
     let mut run = OpenRun::open(rt.alloc())?;
     for sample in samples {
         let _ = run.add(i64::from(*sample));
@@ -79,7 +75,7 @@ fn over_run(rt: &HostRuntime, name: &str, samples: &[i32]) -> anyhow::Result<()>
 }
 
 /// Every layer over two lists of samples, packed and in a run.
-pub(crate) fn over_stores(rt: &HostRuntime) -> anyhow::Result<()> {
+pub(crate) fn over_stores(rt: &HostRuntime) -> io::Result<()> {
     over_packed(rt, "packed five", &FIVE_DAYS)?;
     over_run(rt, "run five", &FIVE_DAYS)?;
     over_packed(rt, "packed signs", &SIGNS)?;
