@@ -22,62 +22,63 @@ fn odd_of_even<S: Series>(s: &S) -> Result<OddMirror<EvenMirror<&S>>, Fault> {
     OddMirror::new(EvenMirror::new(s)?)
 }
 
-fn titled<L: Series + Drop>(
-    rt: &HostRuntime,
-    name: &str,
-    what: &str,
-    made: Result<L, Fault>,
-) -> io::Result<()> {
-    println!(rt; "== {name} {what}")?;
-    show(rt, made)
+// The store that layers are made over, by its name.
+#[derive(Clone, Copy)]
+struct Over<'a> {
+    rt: &'a HostRuntime,
+    name: &'a str,
 }
 
-fn alone<S: Series>(rt: &HostRuntime, name: &str, s: &S) -> io::Result<()> {
-    titled(rt, name, "window", Window::new(s, 1, 3))?;
-    titled(rt, name, "differences", Differences::new(s))?;
-    titled(rt, name, "odd", OddMirror::new(s))?;
-    titled(rt, name, "detrended", Detrended::new(s))?;
-    titled(rt, name, "even", EvenMirror::new(s))
-}
-
-fn over_one_another<S: Series>(rt: &HostRuntime, name: &str, s: &S) -> io::Result<()> {
-    titled(rt, name, "nest", mirrored_window(s, 2, 3))?;
-    titled(
-        rt,
-        name,
-        "nest of differences",
-        mirrored_differences(s, 1, 3),
-    )?;
-    titled(rt, name, "odd of even", odd_of_even(s))
-}
-
-fn over_series<S: Series>(rt: &HostRuntime, name: &str, s: &S) -> io::Result<()> {
-    alone(rt, name, s)?;
-    over_one_another(rt, name, s)
-}
-
-fn over_packed(rt: &HostRuntime, name: &str, samples: &[i32]) -> io::Result<()> {
-    let bytes = samples.iter().flat_map(|sample| sample.to_le_bytes());
-    let bytes = bytes.collect::<Vec<u8>>(rt.alloc())?;
-    match Packed::new(bytes.as_slice()) {
-        // a lent series, lent
-        Ok(s) => over_series(rt, name, &&s),
-        Err(fault) => println!(rt; "{fault}"),
+impl Over<'_> {
+    fn show<L: Series + Drop>(&self, what: &str, made: Result<L, Fault>) -> io::Result<()> {
+        let name = self.name;
+        println!(self.rt; "== {name} {what}")?;
+        show(self.rt, made)
     }
-}
 
-fn over_run(rt: &HostRuntime, name: &str, samples: &[i32]) -> io::Result<()> {
-    let mut run = OpenRun::open(rt.alloc())?;
-    for sample in samples {
-        let _ = run.add(i64::from(*sample));
+    fn alone<S: Series>(&self, s: &S) -> io::Result<()> {
+        self.show("window", Window::new(s, 1, 3))?;
+        self.show("differences", Differences::new(s))?;
+        self.show("odd", OddMirror::new(s))?;
+        self.show("detrended", Detrended::new(s))?;
+        self.show("even", EvenMirror::new(s))
     }
-    over_series(rt, name, &run)
+
+    fn over_one_another<S: Series>(&self, s: &S) -> io::Result<()> {
+        self.show("nest", mirrored_window(s, 2, 3))?;
+        self.show("nest of differences", mirrored_differences(s, 1, 3))?;
+        self.show("odd of even", odd_of_even(s))
+    }
+
+    fn series<S: Series>(&self, s: &S) -> io::Result<()> {
+        self.alone(s)?;
+        self.over_one_another(s)
+    }
+
+    fn packed(&self, samples: &[i32]) -> io::Result<()> {
+        let bytes = samples.iter().flat_map(|sample| sample.to_le_bytes());
+        let bytes = bytes.collect::<Vec<u8>>(self.rt.alloc())?;
+        match Packed::new(bytes.as_slice()) {
+            // a lent series, lent
+            Ok(s) => self.series(&&s),
+            Err(fault) => println!(self.rt; "{fault}"),
+        }
+    }
+
+    fn run(&self, samples: &[i32]) -> io::Result<()> {
+        let mut run = OpenRun::open(self.rt.alloc())?;
+        for sample in samples {
+            let _ = run.add(i64::from(*sample));
+        }
+        self.series(&run)
+    }
 }
 
 /// Every layer over two lists of samples, packed and in a run.
 pub(crate) fn over_stores(rt: &HostRuntime) -> io::Result<()> {
-    over_packed(rt, "packed five", &FIVE_DAYS)?;
-    over_run(rt, "run five", &FIVE_DAYS)?;
-    over_packed(rt, "packed signs", &SIGNS)?;
-    over_run(rt, "run signs", &SIGNS)
+    let over = |name| Over { rt, name };
+    over("packed five").packed(&FIVE_DAYS)?;
+    over("run five").run(&FIVE_DAYS)?;
+    over("packed signs").packed(&SIGNS)?;
+    over("run signs").run(&SIGNS)
 }
