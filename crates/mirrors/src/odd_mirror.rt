@@ -1,5 +1,6 @@
 // A series between its reflections in both end samples.
-ghost use Rattle.std.specs.Prelude.{◌≡◌, ◌-◌, ◌*◌, ◌≤◌};
+ghost use Rattle.std.specs.Prelude.{◌≡◌, ◌-◌, ◌*◌, ◌≤◌, unsigned_abs};
+ghost use Rattle.algebra.specs.Mirrors.{about};
 ghost use Rattle.series.specs.Limits.{longest, farthest};
 ghost use Rattle.series.specs.Seen.{all, one};
 ghost use Rattle.layers.specs.Layers.{through};
@@ -23,6 +24,14 @@ fn has_shape(length: usize) -> bool
     ensures { result ≡ odd_shape length }
 {
     (3..=(LONGEST + 4) / 3).contains(&length)
+}
+
+// A sample reflected in an end sample.
+fn reflect(end: i64, sample: i64) -> i64
+    requires { (unsigned_abs end ≤ farthest) × (unsigned_abs sample ≤ farthest) }
+    ensures { result ≡ about end sample }
+{
+    2 * end - sample
 }
 
 impl<S: Series> OddMirror<S> {
@@ -56,11 +65,11 @@ impl<S: Series> Series for OddMirror<S> {
         }
         let n = self.of.length();
         if place < n - 2 {
-            Ok(2 * self.of.sample(0)? - self.of.sample(n - 2 - place)?)
+            Ok(reflect(self.of.sample(0)?, self.of.sample(n - 2 - place)?))
         } else if place < 2 * n - 2 {
             self.of.sample(place - (n - 2))
         } else {
-            Ok(2 * self.of.sample(n - 1)? - self.of.sample(3 * n - 4 - place)?)
+            Ok(reflect(self.of.sample(n - 1)?, self.of.sample(3 * n - 4 - place)?))
         }
     }
 }
