@@ -20,8 +20,8 @@ pub record Products (s : Seen) (D : ℕ) (Δ x : ℤ) (k : ℕ) : Type 0 where
   pub right_small : nat_abs (Δ *ℤ pos k) ≤ farthest
   pub shown : Ok (tilted D Δ x k) ≡ sample_of (detrended s) k
 
-pub products : (s : Seen) → Lawful s → (D : ℕ) (Δ : ℤ) → D ≡ scale s.size → Δ ≡ rise s.size (samples s) → 5 * scale s.size * s.bound ≤ farthest → (k : ℕ) (x : ℤ) → Ok x ≡ sample_of s k → Products s D Δ x k
-products s l D Δ d e near k x h =
+pub products : {s : Seen} {D : ℕ} {Δ x : ℤ} {k : ℕ} → Lawful s → D ≡ scale s.size → Δ ≡ rise s.size (samples s) → 5 * scale s.size * s.bound ≤ farthest → Ok x ≡ sample_of s k → Products s D Δ x k
+products {s} {D} {Δ} {x} {k} l d e near h =
     let below : k < s.size = sample_inside s k x h in
     let few : D ≤ 37748736 = omega (arith, scale_within s.size l.short) in
     let t : nat_abs Δ ≤ (s.size / 2) * (2 * s.bound) = omega (arith, ap nat_abs e, rise_within s.size s.bound (samples s) l.within) in

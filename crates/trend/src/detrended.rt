@@ -49,7 +49,7 @@ impl<S: Series> Detrended<S> {
         let half = length / 2;
         let scale = (half * (length - half)) as u64;
         accept(length >= 2, 5 * scale * of.reach())?;
-        // at an odd length the middle sample is in neither half
+        // the sum of the last half less that of the first; at an odd length the middle sample is in neither
         let delta = sum(&of, length - half, half)? - sum(&of, 0, half)?;
         Ok(Detrended { of, scale, delta })
     }

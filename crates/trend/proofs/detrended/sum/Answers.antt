@@ -4,7 +4,7 @@ use Rattle.algebra.specs.Sums.{sum_z}
 use Rattle.algebra.specs.Windows.{onward}
 use Rattle.algebra.proofs.Sums.{sum_z_more}
 use Rattle.series.specs.Seen.{one, samples}
-use Rattle.series.proofs.Samples.{sample_is}
+use Rattle.series.proofs.Samples.{sample_at_lem}
 use Rattle.trend.proofs.detrended.sum.Goals as goal
 
 more : (x : ℕ → ℤ) (first place : ℕ) → first ≤ place → sum_z (place + 1 - first) (onward first x) ≡ sum_z (place - first) (onward first x) +ℤ x place
@@ -20,7 +20,8 @@ loop-place-preserved g c =
     let l = one g.S.Series.laws c.args.s.now in
     let place = c.loop-place.place in
     let here = l.within place (omega arith) in
-    let x = sample_is s place c.in_ok-total.field-0 (omega arith) c.in_ok-total.ensures in
+    let at = sample_at_lem s place (omega arith) in
+    let x : c.in_ok-total.field-0 ≡ s.value place = cc c.in_ok-total.ensures in
     record {
       is = omega (arith, ints, more (samples s) c.args.first place (omega arith), l.short, l.near);
       small = omega (arith, ints, l.short, l.near);
