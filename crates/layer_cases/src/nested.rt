@@ -1,6 +1,8 @@
 // Layers over one another, three and four deep.
 ghost use Rattle.std.specs.Prelude.{◌≡◌};
-ghost use Rattle.layer_cases.specs.Nested.{nested_sample};
+ghost use Rattle.series.specs.Faults.{and_then};
+ghost use Rattle.layers.specs.Layers.{differences_of, through};
+ghost use Rattle.layer_cases.specs.Nested.{nest_of, nested_sample};
 
 use layers::differences::Differences;
 use layers::window::Window;
@@ -12,32 +14,35 @@ use trend::detrended::Detrended;
 /// A window without its trend between even mirrors.
 pub(crate) type Nest<S> = EvenMirror<Detrended<Window<S>>>;
 
-fn nest<S: Series + Drop>(of: S, first: usize, count: usize) -> Result<Nest<S>, Fault> {
-    let window = Window::new(of, first, count)?;
-    let detrended = Detrended::new(window)?;
-    EvenMirror::new(detrended)
+fn nest<S: Series + Drop>(of: S, first: usize, count: usize) -> Result<Nest<S>, Fault>
+    ensures { through ⟦<Nest<S> as Series>⟧.seen result ≡ nest_of first count (S.seen of) }
+{
+    EvenMirror::new(Detrended::new(Window::new(of, first, count)?)?)
 }
 
 /// The nest over a series that is lent.
-pub(crate) fn mirrored_window<S: Series>(
-    s: &S,
+pub(crate) fn mirrored_window<'a, S: Series>(
+    s: &'a S,
     first: usize,
     count: usize,
-) -> Result<Nest<&S>, Fault> {
+) -> Result<Nest<&'a S>, Fault>
+    ensures { through ⟦<Nest<&'a S> as Series>⟧.seen result ≡ nest_of first count (S.seen s.now) }
+{
     nest(s, first, count)
 }
 
 /// The nest over the differences of a series.
-pub(crate) fn mirrored_differences<S: Series>(
-    s: &S,
+pub(crate) fn mirrored_differences<'a, S: Series>(
+    s: &'a S,
     first: usize,
     count: usize,
-) -> Result<Nest<Differences<&S>>, Fault> {
+) -> Result<Nest<Differences<&'a S>>, Fault>
+    ensures { through ⟦<Nest<Differences<&'a S>> as Series>⟧.seen result ≡ and_then (differences_of (S.seen s.now)) (nest_of first count) }
+{
     nest(Differences::new(s)?, first, count)
 }
 
 /// A sample of the nest: the layers above one another are those of the definitions, one applied to the other.
-/// (It calls the makers itself: no clause can say what is seen of another crate's layer, so `nest` states nothing.)
 pub(crate) fn nested_sample<S: Series>(
     s: &S,
     first: usize,
@@ -46,8 +51,5 @@ pub(crate) fn nested_sample<S: Series>(
 ) -> Result<i64, Fault>
     ensures { result ≡ nested_sample first count place (S.seen s.now) }
 {
-    let window = Window::new(s, first, count)?;
-    let detrended = Detrended::new(window)?;
-    let mirror = EvenMirror::new(detrended)?;
-    mirror.sample(place)
+    nest(s, first, count)?.sample(place)
 }

@@ -1,2 +1,2 @@
 pub mod Layers
-pub mod Shown
+pub mod Series

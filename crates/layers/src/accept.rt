@@ -9,16 +9,11 @@ use series::form::FARTHEST;
 pub fn accept(shape: bool, reach: u64) -> Result<u64, Fault>
     ensures { result ≡ accepted shape reach }
 {
-    let cause = if !shape {
-        Cause::NoSuchPlace
-    } else if reach > FARTHEST {
-        Cause::ReachTooLarge
-    } else {
-        return Ok(reach);
-    };
-    Err(Fault {
-        cause,
-        layer: Layer::Series,
-        place: 0,
-    })
+    if !shape {
+        return Err(Layer::Series.refusal(Cause::NoSuchPlace, 0));
+    }
+    if reach > FARTHEST {
+        return Err(Layer::Series.refusal(Cause::ReachTooLarge, 0));
+    }
+    Ok(reach)
 }

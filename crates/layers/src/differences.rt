@@ -1,25 +1,20 @@
 // The difference from each sample to the next.
-ghost use Rattle.std.specs.Prelude.{◌≡◌, ◌≤◌, ◌-ℤ◌, unsigned_abs};
+ghost use Rattle.std.specs.Prelude.{◌≡◌, ◌*◌, ◌≤◌};
 ghost use Rattle.series.specs.Limits.{farthest};
 ghost use Rattle.series.specs.Seen.{all, one};
-ghost use Rattle.layers.specs.Layers.{differences_of, through};
-ghost use Rattle.layers.specs.Shown.{differences_shown, differences-Lawful};
+ghost use Rattle.layers.specs.Layers.{differenced, differences_of, through};
+ghost use Rattle.layers.specs.Series.{differences-Lawful};
 
 use crate::accept::accept;
 use series::fault::Fault;
-use series::form::{FARTHEST, Series};
+use series::form::Series;
 
 /// The difference from each sample of a series to the next.
 #[derive(Drop)]
 pub struct Differences<S: Series> {
     of: S,
-}
-
-fn difference(next: i64, here: i64) -> i64
-    requires { (unsigned_abs next ≤ farthest) × (unsigned_abs here ≤ farthest) }
-    ensures { result ≡ next -ℤ here }
-{
-    next - here
+    ghost enough: { 2 ≤ (S.seen of).size },
+    ghost near: { 2 * (S.seen of).bound ≤ farthest },
 }
 
 impl<S: Series> Differences<S> {
@@ -27,7 +22,7 @@ impl<S: Series> Differences<S> {
     pub fn new(of: S) -> Result<Differences<S>, Fault>
     where
         S: Drop,
-        ensures { through (λ d. differences_shown (S.seen d.of)) result ≡ differences_of (S.seen of) }
+        ensures { through ⟦<Differences<S> as Series>⟧.seen result ≡ differences_of (S.seen of) }
     {
         accept(of.length() >= 2, 2 * of.reach())?;
         Ok(Differences { of })
@@ -35,25 +30,16 @@ impl<S: Series> Differences<S> {
 }
 
 impl<S: Series> Series for Differences<S> {
-    ghost seen = { λ d. differences_shown (S.seen d.of) };
+    ghost seen = { λ d. differenced (S.seen d.of) };
 
-    ghost laws = { all (λ d. differences-Lawful (S.seen d.of) (one S.laws d.of)) };
+    ghost laws = { all (λ d. differences-Lawful (S.seen d.of) (one S.laws d.of) d.enough d.near) };
 
     fn length(&self) -> usize {
-        let n = self.of.length();
-        if n >= 2 && 2 * self.of.reach() <= FARTHEST {
-            n - 1
-        } else {
-            0
-        }
+        self.of.length() - 1
     }
 
     fn reach(&self) -> u64 {
-        if self.length() > 0 {
-            2 * self.of.reach()
-        } else {
-            0
-        }
+        2 * self.of.reach()
     }
 
     fn sample(&self, place: usize) -> Result<i64, Fault> {
@@ -62,6 +48,6 @@ impl<S: Series> Series for Differences<S> {
         }
         let here = self.of.sample(place)?;
         let next = self.of.sample(place + 1)?;
-        Ok(difference(next, here))
+        Ok(next - here)
     }
 }

@@ -1,9 +1,8 @@
 // Some samples of a series in a row.
 ghost use Rattle.std.specs.Prelude.{◌≡◌, ◌+◌, ◌≤◌};
-ghost use Rattle.series.specs.Limits.{longest};
 ghost use Rattle.series.specs.Seen.{all, one};
-ghost use Rattle.layers.specs.Layers.{window_shape, window_of, through};
-ghost use Rattle.layers.specs.Shown.{window_shown, window-Lawful};
+ghost use Rattle.layers.specs.Layers.{windowed, window_shape, window_of, through};
+ghost use Rattle.layers.specs.Series.{window-Lawful};
 
 use crate::accept::accept;
 use series::fault::Fault;
@@ -15,14 +14,15 @@ pub struct Window<S: Series> {
     of: S,
     first: usize,
     count: usize,
-    ghost ends: { first + count ≤ longest },
+    ghost some: { 1 ≤ count },
+    ghost inside: { first + count ≤ (S.seen of).size },
 }
 
 // Whether there is a sample to see, and the last lies within the length; no sum is taken that could wrap.
 fn is_within(length: usize, first: usize, count: usize) -> bool
     ensures { result ≡ window_shape first count length }
 {
-    count >= 1 && count <= length && first <= length - count
+    (1..=length).contains(&count) && first <= length - count
 }
 
 impl<S: Series> Window<S> {
@@ -30,7 +30,7 @@ impl<S: Series> Window<S> {
     pub fn new(of: S, first: usize, count: usize) -> Result<Window<S>, Fault>
     where
         S: Drop,
-        ensures { through (λ d. window_shown d.first d.count (S.seen d.of)) result ≡ window_of first count (S.seen of) }
+        ensures { through ⟦<Window<S> as Series>⟧.seen result ≡ window_of first count (S.seen of) }
     {
         accept(is_within(of.length(), first, count), of.reach())?;
         Ok(Window { of, first, count })
@@ -38,12 +38,12 @@ impl<S: Series> Window<S> {
 }
 
 impl<S: Series> Series for Window<S> {
-    ghost seen = { λ d. window_shown d.first d.count (S.seen d.of) };
+    ghost seen = { λ d. windowed d.first d.count (S.seen d.of) };
 
-    ghost laws = { all (λ d. window-Lawful d.first d.count (S.seen d.of) d.ends (one S.laws d.of)) };
+    ghost laws = { all (λ d. window-Lawful d.first d.count (S.seen d.of) (one S.laws d.of) d.inside) };
 
     fn length(&self) -> usize {
-        self.count.min(self.of.length().saturating_sub(self.first))
+        self.count
     }
 
     fn reach(&self) -> u64 {
@@ -54,9 +54,6 @@ impl<S: Series> Series for Window<S> {
         if place >= self.count {
             return Err(Fault::no_such_place(place));
         }
-        match self.of.sample(self.first + place) {
-            Ok(sample) => Ok(sample),
-            Err(_) => Err(Fault::no_such_place(place)),
-        }
+        self.of.sample(self.first + place)
     }
 }

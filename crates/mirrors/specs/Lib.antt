@@ -1,2 +1,2 @@
 pub mod Mirrors
-pub mod Shown
+pub mod Series

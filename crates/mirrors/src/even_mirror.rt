@@ -1,11 +1,10 @@
 // A series between two mirrors that repeat its end samples.
-ghost use Rattle.std.specs.Prelude.{◌≡◌, ◌*◌, ◌<◌, ◌≤◌};
-ghost use Rattle.algebra.specs.Mirrors.{folded};
+ghost use Rattle.std.specs.Prelude.{◌≡◌, ◌*◌, ◌≤◌};
 ghost use Rattle.series.specs.Limits.{longest};
 ghost use Rattle.series.specs.Seen.{all, one};
 ghost use Rattle.layers.specs.Layers.{through};
-ghost use Rattle.mirrors.specs.Mirrors.{even_shape, even_mirror_of};
-ghost use Rattle.mirrors.specs.Shown.{even_mirror_shown, even_mirror-Lawful};
+ghost use Rattle.mirrors.specs.Mirrors.{even_mirrored, even_shape, even_mirror_of};
+ghost use Rattle.mirrors.specs.Series.{even_mirror-Lawful};
 
 use layers::accept::accept;
 use series::fault::Fault;
@@ -15,27 +14,14 @@ use series::form::{LONGEST, Series};
 #[derive(Drop)]
 pub struct EvenMirror<S: Series> {
     of: S,
+    ghost some: { 1 ≤ (S.seen of).size },
+    ghost short: { 3 * (S.seen of).size ≤ longest },
 }
 
 fn has_shape(length: usize) -> bool
-    requires { length ≤ longest }
     ensures { result ≡ even_shape length }
 {
-    length >= 1 && 3 * length <= LONGEST
-}
-
-// The place of the series that a place of its mirror shows.
-fn fold(length: usize, place: usize) -> usize
-    requires { (length ≤ longest) × (place < 3 * length) }
-    ensures { result ≡ folded length place }
-{
-    if place < length {
-        length - 1 - place
-    } else if place < 2 * length {
-        place - length
-    } else {
-        3 * length - 1 - place
-    }
+    (1..=LONGEST / 3).contains(&length)
 }
 
 impl<S: Series> EvenMirror<S> {
@@ -43,7 +29,7 @@ impl<S: Series> EvenMirror<S> {
     pub fn new(of: S) -> Result<EvenMirror<S>, Fault>
     where
         S: Drop,
-        ensures { through (λ d. even_mirror_shown (S.seen d.of)) result ≡ even_mirror_of (S.seen of) }
+        ensures { through ⟦<EvenMirror<S> as Series>⟧.seen result ≡ even_mirror_of (S.seen of) }
     {
         accept(has_shape(of.length()), of.reach())?;
         Ok(EvenMirror { of })
@@ -51,13 +37,12 @@ impl<S: Series> EvenMirror<S> {
 }
 
 impl<S: Series> Series for EvenMirror<S> {
-    ghost seen = { λ d. even_mirror_shown (S.seen d.of) };
+    ghost seen = { λ d. even_mirrored (S.seen d.of) };
 
-    ghost laws = { all (λ d. even_mirror-Lawful (S.seen d.of) (one S.laws d.of)) };
+    ghost laws = { all (λ d. even_mirror-Lawful (S.seen d.of) (one S.laws d.of) d.short) };
 
     fn length(&self) -> usize {
-        let n = self.of.length();
-        if has_shape(n) { 3 * n } else { 0 }
+        3 * self.of.length()
     }
 
     fn reach(&self) -> u64 {
@@ -68,6 +53,14 @@ impl<S: Series> Series for EvenMirror<S> {
         if place >= self.length() {
             return Err(Fault::no_such_place(place));
         }
-        self.of.sample(fold(self.of.length(), place))
+        let n = self.of.length();
+        let shown = if place < n {
+            n - 1 - place
+        } else if place < 2 * n {
+            place - n
+        } else {
+            3 * n - 1 - place
+        };
+        self.of.sample(shown)
     }
 }

@@ -1,3 +1,1 @@
-pub mod Sums
-pub mod Fits
-pub mod Detrends
+pub mod Products

@@ -1,2 +1,2 @@
 pub mod Trend
-pub mod Shown
+pub mod Series

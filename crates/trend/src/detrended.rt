@@ -1,13 +1,13 @@
 // A series without its trend.
-ghost use Rattle.std.specs.Prelude.{◌≡◌, ◌+◌, ◌*◌, ◌≤◌, Ok, unsigned_abs};
+ghost use Rattle.std.specs.Prelude.{◌≡◌, ◌+◌, ◌*◌, ◌≤◌, Ok, IfOk, unsigned_abs};
 ghost use Rattle.algebra.specs.Sums.{sum_z};
-ghost use Rattle.algebra.specs.Trends.{rise, tilted};
+ghost use Rattle.algebra.specs.Trends.{scale as scale_of, rise};
 ghost use Rattle.algebra.specs.Windows.{onward};
-ghost use Rattle.series.specs.Limits.{longest, farthest};
+ghost use Rattle.series.specs.Limits.{farthest};
 ghost use Rattle.series.specs.Seen.{all, one, samples};
 ghost use Rattle.layers.specs.Layers.{through};
-ghost use Rattle.trend.specs.Trend.{detrended_of};
-ghost use Rattle.trend.specs.Shown.{Serves, detrended_shown, detrended-Lawful};
+ghost use Rattle.trend.specs.Trend.{detrended, detrended_of};
+ghost use Rattle.trend.specs.Series.{detrended-Lawful};
 
 use layers::accept::accept;
 use series::fault::Fault;
@@ -19,42 +19,23 @@ pub struct Detrended<S: Series> {
     of: S,
     scale: u64,
     delta: i64,
-    reach: u64,
-    // how many samples the series below had, and how far it reached, when delta was summed
-    most: usize,
-    under: u64,
-    ghost serves: { Serves scale delta reach most under },
+    ghost enough: { 2 ≤ (S.seen of).size },
+    ghost scaled: { scale ≡ scale_of (S.seen of).size },
+    ghost risen: { delta ≡ rise (S.seen of).size (samples (S.seen of)) },
+    ghost near: { 5 * scale_of (S.seen of).size * (S.seen of).bound ≤ farthest },
 }
 
 // The sum of some samples in a row.
 fn sum<S: Series>(s: &S, first: usize, count: usize) -> Result<i64, Fault>
     requires { first + count ≤ (S.seen s.now).size }
-    ensures { result ≡ Ok (sum_z count (onward first (samples (S.seen s.now)))) }
+    ensures is { result ≡ Ok (sum_z count (onward first (samples (S.seen s.now)))) }
+    ensures small { IfOk result (λ total. unsigned_abs total ≤ count * farthest) }
 {
     let mut total = 0;
-    for i in 0..count {
-        total += s.sample(first + i)?;
+    for place in first..first + count {
+        total += s.sample(place)?;
     }
     Ok(total)
-}
-
-// The sum of the last half less that of the first; at an odd length the middle sample is in neither.
-fn delta_of<S: Series>(s: &S) -> Result<i64, Fault>
-    ensures { result ≡ Ok (rise (S.seen s.now).size (samples (S.seen s.now))) }
-{
-    let n = s.length();
-    let half = n / 2;
-    let last = sum(s, n - half, half)?;
-    let first = sum(s, 0, half)?;
-    Ok(last - first)
-}
-
-// A sample at a place, as the layer shows it.
-fn tilt(scale: u64, delta: i64, sample: i64, place: usize) -> i64
-    requires { (scale ≤ farthest) × ((place ≤ longest) × ((scale * unsigned_abs sample ≤ farthest) × (unsigned_abs delta * place ≤ farthest))) }
-    ensures { result ≡ tilted scale delta sample place }
-{
-    scale as i64 * sample - delta * place as i64
 }
 
 impl<S: Series> Detrended<S> {
@@ -62,46 +43,33 @@ impl<S: Series> Detrended<S> {
     pub fn new(of: S) -> Result<Detrended<S>, Fault>
     where
         S: Drop,
-        ensures { through (λ d. detrended_shown d.scale d.delta d.reach d.most d.under (S.seen d.of)) result ≡ detrended_of (S.seen of) }
+        ensures { through ⟦<Detrended<S> as Series>⟧.seen result ≡ detrended_of (S.seen of) }
     {
-        let most = of.length();
-        let under = of.reach();
-        let scale = (most / 2 * (most - most / 2)) as u64;
-        let reach = accept(most >= 2, 5 * scale * under)?;
-        let delta = delta_of(&of)?;
-        Ok(Detrended {
-            of,
-            scale,
-            delta,
-            reach,
-            most,
-            under,
-        })
+        let length = of.length();
+        let half = length / 2;
+        let scale = (half * (length - half)) as u64;
+        accept(length >= 2, 5 * scale * of.reach())?;
+        // the sum of the last half less that of the first; at an odd length the middle sample is in neither
+        let delta = sum(&of, length - half, half)? - sum(&of, 0, half)?;
+        Ok(Detrended { of, scale, delta })
     }
 }
 
 impl<S: Series> Series for Detrended<S> {
-    ghost seen = { λ d. detrended_shown d.scale d.delta d.reach d.most d.under (S.seen d.of) };
+    ghost seen = { λ d. detrended (S.seen d.of) };
 
-    ghost laws = { all (λ d. detrended-Lawful d.scale d.delta d.reach d.most d.under (S.seen d.of) d.serves (one S.laws d.of)) };
+    ghost laws = { all (λ d. detrended-Lawful (S.seen d.of) (one S.laws d.of) d.near) };
 
     fn length(&self) -> usize {
-        if self.of.reach() <= self.under {
-            self.of.length().min(self.most)
-        } else {
-            0
-        }
+        self.of.length()
     }
 
     fn reach(&self) -> u64 {
-        self.reach
+        5 * self.scale * self.of.reach()
     }
 
     fn sample(&self, place: usize) -> Result<i64, Fault> {
-        if place >= self.most || self.of.reach() > self.under {
-            return Err(Fault::no_such_place(place));
-        }
-        let below = self.of.sample(place)?;
-        Ok(tilt(self.scale, self.delta, below, place))
+        let sample = self.of.sample(place)?;
+        Ok(self.scale as i64 * sample - self.delta * place as i64)
     }
 }

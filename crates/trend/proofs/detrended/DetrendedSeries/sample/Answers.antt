@@ -1,15 +1,29 @@
-use Rattle.std.proofs.Common.{arith, w64, SFits, rules}
-use Rattle.std.proofs.lemmas.Int.{to_z-of_z}
+use Rattle.std.proofs.Common.{Ok, ap, ◌∙◌, arith}
+use Rattle.std.proofs.lemmas.Int.{ints}
 use Rattle.series.specs.Seen.{one}
-use Rattle.trend.proofs.Detrends.{products_within}
+use Rattle.trend.proofs.Products.{products}
 use Rattle.trend.proofs.detrended.DetrendedSeries.sample.Goals as goal
 
-pub tilt-requires : goal.tilt-requires
-tilt-requires g c =
+pub overflow_mul-result : goal.overflow_mul-result
+overflow_mul-result g c =
     let d = c.args.self.now in
-    let s = g.S.Series.seen d.of in
-    let l = one g.S.Series.laws d.of in
-    let p = products_within d.scale d.delta d.reach d.most d.under s d.serves l c.args.place c.in_ok-below.below (omega arith) (omega arith) c.in_ok-below.ensures in
-    let f : SFits w64 c.in_ok-below.below = search rules in
-    let h : SFits w64 d.delta = search rules in
-    simp to_z-of_z (p.0, (p.1, (p.2, p.3)))
+    let p = products (one g.S.Series.laws d.of) d.scaled d.risen d.near c.in_ok-sample.ensures in
+    omega (arith, ints, p.left, p.left_small)
+
+pub overflow_mul-result-2 : goal.overflow_mul-result-2
+overflow_mul-result-2 g c =
+    let d = c.args.self.now in
+    let p = products (one g.S.Series.laws d.of) d.scaled d.risen d.near c.in_ok-sample.ensures in
+    omega (arith, ints, p.right, p.right_small)
+
+pub overflow_sub-result : goal.overflow_sub-result
+overflow_sub-result g c =
+    let d = c.args.self.now in
+    let p = products (one g.S.Series.laws d.of) d.scaled d.risen d.near c.in_ok-sample.ensures in
+    omega (arith, ints, p.left, p.right, p.left_small, p.right_small)
+
+pub returns : goal.returns
+returns g c =
+    let d = c.args.self.now in
+    let p = products (one g.S.Series.laws d.of) d.scaled d.risen d.near c.in_ok-sample.ensures in
+    ap Ok (omega (arith, ints, p.left, p.right, p.left_small, p.right_small)) ∙ p.shown
