@@ -1,6 +1,6 @@
 // Why a call is refused, by which part, and at which place.
 ghost use Rattle.std.specs.Prelude.{◌≡◌, Some};
-ghost use Rattle.series.specs.declared.fault.Cause.{Cause as ACause};
+ghost use Rattle.series.specs.declared.fault.Cause.{Cause};
 ghost use Rattle.series.specs.declared.fault.Cause.TheVariants.{NoSuchPlace};
 ghost use Rattle.series.specs.declared.fault.Layer.TheVariants.{Series};
 ghost use Rattle.series.specs.Faults.{cause_number, layer_number, fault, shown_fault};
@@ -33,7 +33,7 @@ impl Cause {
     /// The cause's number, which no other cause has.
     pub fn number(self) -> u8
         ensures value { result ≡ cause_number self }
-        ensures alone { (other : ACause) → result ≡ cause_number other → self ≡ other }
+        ensures alone { (other : Cause) → result ≡ cause_number other → self ≡ other }
     {
         self as u8
     }
