@@ -9,7 +9,7 @@ use series::form::Series;
 use series::packed::Packed;
 use statistics::part::part;
 use statistics::read_out::read_out;
-use std::{fs, io};
+use std::{fmt, fs, io};
 use variances::avar::Avar;
 
 // One stored job.
@@ -20,16 +20,19 @@ fn work_job(rt: &HostRuntime, name: &str) -> io::Result<()> {
     rt.print(out.as_str())
 }
 
-// A sample, or why there is none.
-fn print_sample(rt: &HostRuntime, answer: Result<i64, Fault>) -> io::Result<()> {
-    match answer {
-        Ok(sample) => println!(rt; "X {sample}"),
-        Err(fault) => println!(rt; "{fault}"),
+// A sample, as it is printed.
+#[derive(Clone, Copy)]
+struct Sample(i64);
+
+impl fmt::Display for Sample {
+    fn fmt<W: fmt::Write>(&self, f: &mut fmt::Formatter<W>) -> fmt::Result {
+        let sample = self.0;
+        write!(f, "X {sample}")
     }
 }
 
 // An answer, or why it is refused.
-fn print_answer(rt: &HostRuntime, answer: Result<Answer, Fault>) -> io::Result<()> {
+fn print<T: fmt::Display + Drop>(rt: &HostRuntime, answer: Result<T, Fault>) -> io::Result<()> {
     match answer {
         Ok(answer) => println!(rt; "{answer}"),
         Err(fault) => println!(rt; "{fault}"),
@@ -38,8 +41,8 @@ fn print_answer(rt: &HostRuntime, answer: Result<Answer, Fault>) -> io::Result<(
 
 // Part 1 and the read-out of avar at a factor.
 fn print_figures<S: Series>(rt: &HostRuntime, s: &S, factor: u64) -> io::Result<()> {
-    print_answer(rt, part::<Avar, S>(s, factor, 1).map(Answer::Part))?;
-    print_answer(rt, read_out::<Avar, S>(s, factor).map(Answer::ReadOut))
+    print(rt, part::<Avar, S>(s, factor, 1).map(Answer::Part))?;
+    print(rt, read_out::<Avar, S>(s, factor).map(Answer::ReadOut))
 }
 
 // The count and the reach, the first samples and two places past the last, and figures at the factors 0 to 4.
@@ -48,10 +51,10 @@ fn print_series<S: Series>(rt: &HostRuntime, s: &S) -> io::Result<()> {
     let reach = s.reach();
     println!(rt; "N {length} {reach}")?;
     for place in 0..length.min(6) {
-        print_sample(rt, s.sample(place))?;
+        print(rt, s.sample(place).map(Sample))?;
     }
-    print_sample(rt, s.sample(length))?;
-    print_sample(rt, s.sample(4_611_686_018_427_387_904))?;
+    print(rt, s.sample(length).map(Sample))?;
+    print(rt, s.sample(4_611_686_018_427_387_904).map(Sample))?;
     for factor in 0..5 {
         print_figures(rt, s, factor)?;
     }

@@ -7,24 +7,8 @@ use series::fault::Fault;
 use series::form::{FARTHEST, LONGEST, Series};
 use std::io;
 
-fn over_reaches<L: Series + Drop, F: Fn(Probe) -> Result<L, Fault>>(
-    rt: &HostRuntime,
-    name: &str,
-    make: &F,
-    length: usize,
-    reaches: &[u64],
-) -> io::Result<()>
-    requires { F.IsAlwaysCallable make.now }
-{
-    for reach in reaches {
-        println!(rt; "== {name} {length} {reach}")?;
-        show(rt, make(Probe::new(length, *reach)))?;
-    }
-    Ok(())
-}
-
 /// A layer that asks for nothing but a series, at every length with every reach.
-pub(crate) fn over_lengths<L: Series + Drop, F: Fn(Probe) -> Result<L, Fault>>(
+pub(crate) fn over_each<L: Series + Drop, F: Fn(Probe) -> Result<L, Fault>>(
     rt: &HostRuntime,
     name: &str,
     make: &F,
@@ -33,30 +17,25 @@ pub(crate) fn over_lengths<L: Series + Drop, F: Fn(Probe) -> Result<L, Fault>>(
 ) -> io::Result<()>
     requires { F.IsAlwaysCallable make.now }
 {
-    for length in lengths {
-        over_reaches(rt, name, make, *length, reaches)?;
+    let pairs = lengths.iter().flat_map(|length| reaches
+        .iter()
+        .map(move |reach| (*length, *reach)));
+    for (length, reach) in pairs {
+        println!(rt; "== {name} {length} {reach}")?;
+        show(rt, make(Probe::new(length, reach)))?;
     }
     Ok(())
 }
 
-fn counted_windows(rt: &HostRuntime, s: &Probe, first: usize, counts: &[usize]) -> io::Result<()> {
+fn windows_of(rt: &HostRuntime, s: &Probe, firsts: &[usize], counts: &[usize]) -> io::Result<()> {
     let length = s.length();
     let reach = s.reach();
-    for count in counts {
+    let pairs = firsts
+        .iter()
+        .flat_map(|first| counts.iter().map(move |count| (*first, *count)));
+    for (first, count) in pairs {
         println!(rt; "== window {length} {reach} {first} {count}")?;
-        show(rt, Window::new(s, first, *count))?;
-    }
-    Ok(())
-}
-
-fn placed_windows(
-    rt: &HostRuntime,
-    s: &Probe,
-    firsts: &[usize],
-    counts: &[usize],
-) -> io::Result<()> {
-    for first in firsts {
-        counted_windows(rt, s, *first, counts)?;
+        show(rt, Window::new(s, first, count))?;
     }
     Ok(())
 }
@@ -65,10 +44,10 @@ fn placed_windows(
 pub(crate) fn windows(rt: &HostRuntime) -> io::Result<()> {
     for length in [0, 1, 10] {
         let s = Probe::new(length, 100);
-        placed_windows(rt, &s, &[0, 1, 3, 9, 10, 11], &[0, 1, 4, 9, 10, 11])?;
+        windows_of(rt, &s, &[0, 1, 3, 9, 10, 11], &[0, 1, 4, 9, 10, 11])?;
     }
     let longest = Probe::new(LONGEST, FARTHEST);
-    placed_windows(
+    windows_of(
         rt,
         &longest,
         &[0, 1, 12287, 12288],
@@ -76,39 +55,37 @@ pub(crate) fn windows(rt: &HostRuntime) -> io::Result<()> {
     )?;
     let half = 9_223_372_036_854_775_808;
     let ten = Probe::new(10, FARTHEST);
-    placed_windows(rt, &ten, &[0, 1, half, usize::MAX], &[1, half, usize::MAX])
+    windows_of(rt, &ten, &[0, 1, half, usize::MAX], &[1, half, usize::MAX])
 }
 
-fn nested_samples(rt: &HostRuntime, length: usize, first: usize, count: usize) -> io::Result<()> {
-    let s = Probe::new(length, 1_048_576);
+fn nested_samples(rt: &HostRuntime, s: &Probe, first: usize, count: usize) -> io::Result<()> {
+    let length = s.length();
     for place in [0, count, count.saturating_mul(3)] {
         println!(rt; "== sample {length} {first} {count} {place}")?;
-        show_sample(rt, nested_sample(&s, first, count, place))?;
+        show_sample(rt, nested_sample(s, first, count, place))?;
     }
     Ok(())
 }
 
-fn counted_nests(rt: &HostRuntime, length: usize, first: usize) -> io::Result<()> {
+fn nests_of(rt: &HostRuntime, length: usize) -> io::Result<()> {
     let s = Probe::new(length, 1_048_576);
-    for count in [0, 1, 2, 3, 6, 9, 13, 96, 161, 162, 228, 229] {
+    let counts = [0, 1, 2, 3, 6, 9, 13, 96, 161, 162, 228, 229];
+    let firsts = [0, 1, 7, 17, 204];
+    let pairs = firsts
+        .iter()
+        .flat_map(|first| counts.iter().map(move |count| (*first, *count)));
+    for (first, count) in pairs {
         println!(rt; "== nest {length} {first} {count}")?;
         show(rt, mirrored_window(&s, first, count))?;
         println!(rt; "== nest of differences {length} {first} {count}")?;
         show(rt, mirrored_differences(&s, first, count))?;
-        nested_samples(rt, length, first, count)?;
-    }
-    Ok(())
-}
-
-fn placed_nests(rt: &HostRuntime, length: usize) -> io::Result<()> {
-    for first in [0, 1, 7, 17, 204] {
-        counted_nests(rt, length, first)?;
+        nested_samples(rt, &s, first, count)?;
     }
     Ok(())
 }
 
 /// Windows without their trend between even mirrors, of samples and of differences.
 pub(crate) fn nests(rt: &HostRuntime) -> io::Result<()> {
-    placed_nests(rt, 20)?;
-    placed_nests(rt, 300)
+    nests_of(rt, 20)?;
+    nests_of(rt, 300)
 }

@@ -7,7 +7,7 @@ mod probe;
 mod show;
 mod stores;
 
-use cases::{nests, over_lengths, windows};
+use cases::{nests, over_each, windows};
 use layers::differences::Differences;
 use mirrors::even_mirror::EvenMirror;
 use mirrors::odd_mirror::OddMirror;
@@ -21,21 +21,21 @@ const RUN: u64 = 1_048_576;
 
 // Lengths and reaches on both sides of every edge.
 fn one_by_one(rt: &HostRuntime) -> io::Result<()> {
-    over_lengths(
+    over_each(
         rt,
         "differences",
         &Differences::new,
         &[0, 1, 2, 3, 4, 12287, 12288],
         &[0, 1, RUN, FARTHEST / 2, FARTHEST / 2 + 1, FARTHEST],
     )?;
-    over_lengths(
+    over_each(
         rt,
         "odd",
         &OddMirror::new,
         &[0, 2, 3, 4, 5, 8, 4096, 4097, 4098, 12288],
         &[0, RUN, FARTHEST / 3, FARTHEST / 3 + 1],
     )?;
-    over_lengths(
+    over_each(
         rt,
         "detrended",
         &Detrended::new,
@@ -51,7 +51,7 @@ fn one_by_one(rt: &HostRuntime) -> io::Result<()> {
             FARTHEST / 5 + 1,
         ],
     )?;
-    over_lengths(
+    over_each(
         rt,
         "even",
         &EvenMirror::new,
