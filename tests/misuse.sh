@@ -53,7 +53,7 @@ RT
         echo "misuse: $name was taken on a released run"
         exit 1
     fi
-    if ! printf '%s\n' "$out" | grep -F "error[unknown-method]: no method named \`$name\` found for type \`Run<Released>\`"; then
+    if ! printf '%s\n' "$out" | grep -F "error[unknown-method]: the method \`$name\` takes \`self\` as \`&mut Run<Open>\`, and is called on \`Run<Released>\`"; then
         printf '%s\n' "$out" | tail -n 20
         echo "misuse: $name on a released run was refused for another reason"
         exit 1

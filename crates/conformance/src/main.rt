@@ -70,20 +70,23 @@ fn work_packed(rt: &HostRuntime, name: &str) -> io::Result<()> {
     }
 }
 
-fn run(rt: &HostRuntime) -> io::Result<()> {
-    let jobs = fs::read_to_string(rt, "jobs.txt")?;
-    for name in jobs.as_str().lines() {
+// What is done with each of the names that a file lists.
+fn each_name<F: Fn(&HostRuntime, &str) -> io::Result<()>>(
+    rt: &HostRuntime,
+    list: &str,
+    work: F,
+) -> io::Result<()>
+    requires { F.IsAlwaysCallable work }
+{
+    let names = fs::read_to_string(rt, list)?;
+    for name in names.as_str().lines() {
         println!(rt; "== {name}")?;
-        work_job(rt, name)?;
-    }
-    let packed = fs::read_to_string(rt, "packed.txt")?;
-    for name in packed.as_str().lines() {
-        println!(rt; "== {name}")?;
-        work_packed(rt, name)?;
+        work(rt, name)?;
     }
     Ok(())
 }
 
 fn main(rt: HostRuntime) -> io::Result<()> {
-    run(&rt)
+    each_name(&rt, "jobs.txt", work_job)?;
+    each_name(&rt, "packed.txt", work_packed)
 }

@@ -18,12 +18,6 @@ pub struct EvenMirror<S: Series> {
     ghost short: { 3 * (S.seen of).size ≤ longest },
 }
 
-fn has_shape(length: usize) -> bool
-    ensures { result ≡ even_shape length }
-{
-    (1..=LONGEST / 3).contains(&length)
-}
-
 impl<S: Series> EvenMirror<S> {
     /// The mirror of a series of one sample or more, where it is not too long.
     pub fn new(of: S) -> Result<EvenMirror<S>, Fault>
@@ -31,7 +25,8 @@ impl<S: Series> EvenMirror<S> {
         S: Drop,
         ensures { through ⟦<EvenMirror<S> as Series>⟧.seen result ≡ even_mirror_of (S.seen of) }
     {
-        accept(has_shape(of.length()), of.reach())?;
+        let shape = (1..=LONGEST / 3).contains(&of.length());
+        accept(shape, of.reach())?;
         Ok(EvenMirror { of })
     }
 }

@@ -20,12 +20,6 @@ pub struct OddMirror<S: Series> {
     ghost near: { 3 * (S.seen of).bound ≤ farthest },
 }
 
-fn has_shape(length: usize) -> bool
-    ensures { result ≡ odd_shape length }
-{
-    (3..=(LONGEST + 4) / 3).contains(&length)
-}
-
 // A sample reflected in an end sample.
 fn reflect(end: i64, sample: i64) -> i64
     requires { (unsigned_abs end ≤ farthest) × (unsigned_abs sample ≤ farthest) }
@@ -41,7 +35,8 @@ impl<S: Series> OddMirror<S> {
         S: Drop,
         ensures { through ⟦<OddMirror<S> as Series>⟧.seen result ≡ odd_mirror_of (S.seen of) }
     {
-        accept(has_shape(of.length()), 3 * of.reach())?;
+        let shape = (3..=(LONGEST + 4) / 3).contains(&of.length());
+        accept(shape, 3 * of.reach())?;
         Ok(OddMirror { of })
     }
 }
