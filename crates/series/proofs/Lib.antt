@@ -1,5 +1,3 @@
-pub mod Causes
 pub mod Outcomes
 pub mod Samples
-pub mod Small
 pub mod Unpacked

@@ -1,17 +1,16 @@
 -- Packed samples: how many there are, the one at a place, and what their refusal tells.
-use Rattle.std.proofs.Common.{◌≡◌, ℕ, zero, suc, ◌+◌, ◌-◌, ◌*◌, ◌/◌, ◌%◌, ◌<◌, ◌≤◌, Bool, true, false, cond, not, eqb, ltb, leb, List, [], ◌∷◌, length, get_or, take, drop, ℤ, pos, nat_abs, ◌⊎◌, inl, inr, Some, None, Option, sym, refl, ap, ◌∙◌, zero-le, arith}
+use Rattle.std.proofs.Common.{◌≡◌, ℕ, zero, suc, ◌-◌, ◌*◌, ◌/◌, ◌%◌, ◌<◌, ◌≤◌, Bool, true, false, cond, not, eqb, ltb, leb, List, [], ◌∷◌, length, get_or, take, drop, ℤ, pos, nat_abs, ◌⊎◌, inl, inr, Some, None, Option, sym, refl, ap, ◌∙◌, zero-le, arith}
 use Rattle.std.proofs.lemmas.Grind.{common_steps}
-use Rattle.std.proofs.lemmas.List.{length-drop, get_or-drop, get_or_past, take_rest}
+use Rattle.std.proofs.lemmas.List.{get_or-drop, get_or_past, take_rest}
 use Rattle.std.proofs.lemmas.List.Quantifiers.{position-Some}
 use Rattle.std.proofs.lemmas.List.Sums.{fails_before_first}
-use Rattle.std.proofs.lemmas.Slice.{between_to_end}
 use Rattle.std.proofs.lemmas.Bool.{leb-true, leb-false, ltb-false, eqb-true, not-true, not-false, cases_lt}
 use Rattle.series.specs.declared.fault.Fault.{Fault}
 use Rattle.series.specs.declared.fault.Cause.TheVariants.{OutOfRange, Full, MalformedBytes}
 use Rattle.series.specs.declared.fault.Layer.TheVariants.{Series}
 use Rattle.series.specs.Faults.{fault, cause_number}
 use Rattle.series.specs.Limits.{fullest, largest}
-use Rattle.series.specs.Packed.{sample, unpacked, first_beyond, FirstOut, beyond, packed_refusal, RefusalTells}
+use Rattle.series.specs.Packed.{unpacked, first_beyond, FirstOut, beyond, packed_refusal, RefusalTells}
 
 pub length-unpacked : (bs : List ℕ) → length (unpacked bs) ≡ length bs / 4
 length-unpacked [] = refl
@@ -39,28 +38,9 @@ unpacked-drop (suc k) bs = ap (λ n. unpacked (drop n bs)) (four k) ∙ go (unpa
 pub unpacked_at : (k : ℕ) (bs : List ℕ) → get_or (unpacked (drop (4 * k) bs)) 0 (pos 0) ≡ get_or (unpacked bs) k (pos 0)
 unpacked_at k bs = ap (λ xs. get_or xs 0 (pos 0)) (unpacked-drop k bs) ∙ get_or-drop k (unpacked bs) 0 (pos 0) ∙ ap (λ i. get_or (unpacked bs) i (pos 0)) (omega arith)
 
--- the samples of fewer than four bytes
-pub too_few : (bs : List ℕ) → length bs < 4 → unpacked bs ≡ []
-too_few [] h = refl
-too_few (a ∷ []) h = refl
-too_few (a ∷ (b ∷ [])) h = refl
-too_few (a ∷ (b ∷ (c ∷ []))) h = refl
-too_few (a ∷ (b ∷ (c ∷ (d ∷ rest)))) h = absurd (omega arith)
-
--- at least four bytes: the first sample, and those of what follows
-pub front_is : (bs : List ℕ) → 4 ≤ length bs → unpacked bs ≡ sample (get_or bs 0 0) (get_or bs 1 0) (get_or bs 2 0) (get_or bs 3 0) ∷ unpacked (take (length bs - 4) (drop 4 bs))
-front_is [] h = absurd (omega arith)
-front_is (a ∷ []) h = absurd (omega arith)
-front_is (a ∷ (b ∷ [])) h = absurd (omega arith)
-front_is (a ∷ (b ∷ (c ∷ []))) h = absurd (omega arith)
-front_is (a ∷ (b ∷ (c ∷ (d ∷ rest)))) h = ap (λ r. sample a b c d ∷ unpacked r) (sym (between_to_end (a ∷ (b ∷ (c ∷ (d ∷ rest)))) 4 _ (omega arith)))
-
 -- the first sample of the bytes from the place 4k on is the one at the place k
 pub first_at : (k : ℕ) (bs : List ℕ) (x : ℤ) (xs : List ℤ) → unpacked (take (length bs - 4 * k) (drop (4 * k) bs)) ≡ x ∷ xs → x ≡ get_or (unpacked bs) k (pos 0)
 first_at k bs x xs e = sym (ap (λ ys. get_or ys 0 (pos 0)) e) ∙ ap (λ cs. get_or (unpacked cs) 0 (pos 0)) (take_rest bs (4 * k)) ∙ unpacked_at k bs
-
-pub some_at : (k : ℕ) (bs : List ℕ) → 4 * k + 4 ≤ length bs → 0 < length (unpacked (drop (4 * k) bs))
-some_at k bs h = omega (arith, length-unpacked (drop (4 * k) bs), length-drop (4 * k) bs)
 
 -- a sample beyond the range, and one within it
 abbrev pub out : ℤ → Bool

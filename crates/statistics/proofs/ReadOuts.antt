@@ -19,9 +19,6 @@ module _ (F : Formula) (s : Seen) (m : ℕ) where
   pub read_next : (k j sum : ℕ) (r : Result ℕ Fault) → j ≤ k → r ≡ read_step F s m j sum → read_from F s m j (k + 1 - j) sum ≡ and_then r (λ u. read_from F s m (j + 1) (k + 1 - (j + 1)) u)
   read_next k j sum r h e = let left : k + 1 - j ≡ suc (k + 1 - (j + 1)) = omega arith in ap (λ n. read_from F s m j n sum) left ∙ ap (λ (q : Result ℕ Fault). and_then q (λ u. read_from F s m (j + 1) (k + 1 - (j + 1)) u)) (sym e)
 
-  pub read_all : (k j sum : ℕ) → k < j → read_from F s m j (k + 1 - j) sum ≡ Ok sum
-  read_all k j sum h = let none : k + 1 - j ≡ 0 = omega arith in ap (λ n. read_from F s m j n sum) none
-
 -- ---- the bounds, one part more
 more_least : (sum num den t v x : ℕ) → sum * den ≤ 4096 * num → x * v ≤ 4096 * t → (sum + x) * (den * v) ≤ 4096 * (num * v + t * den)
 more_least sum num den t v x a b = omega (arith, mul-le-mul_right v a, mul-le-mul_right den b)

@@ -1,5 +1,5 @@
 -- A share, by a quotient and twelve binary places of the remainder.
-use Rattle.std.proofs.Common.{◌≡◌, ℕ, ◌+◌, ◌-◌, ◌*◌, ◌/◌, ◌%◌, ◌^◌, ◌<◌, ◌≤◌, ◌⊎◌, sym, ap, ◌∙◌, inl, inr, ⊎_elim, mul-le-mul_right, mod-lt, div-add-mod', div-mul-le_self, add-one, arith}
+use Rattle.std.proofs.Common.{◌≡◌, ℕ, ◌+◌, ◌-◌, ◌*◌, ◌/◌, ◌%◌, ◌^◌, ◌<◌, ◌≤◌, ◌⊎◌, ap, ◌∙◌, inl, inr, ⊎_elim, mul-le-mul_right, mod-lt, div-add-mod', div-mul-le_self, add-one, arith}
 use native.Mathlib.Nat.{lt-div-mul-add, pow-succ'}
 use Rattle.std.proofs.lemmas.Bool.{cases_lt}
 use lib.Arith.{digits_div}
@@ -26,10 +26,6 @@ place_one p v l r i a b e h = (omega arith, omega (arith, ap (λ n. n * r) (twic
 
 pub place_zero : (p v l r i : ℕ) → l < v → l < v - l → p * v + l ≡ 2 ^ i * r → p < 2 ^ i → (l + l < v) × (p * 2 * v + (l + l) ≡ 2 ^ (i + 1) * r) × (p * 2 < 2 ^ (i + 1))
 place_zero p v l r i a b e h = (omega arith, omega (arith, ap (λ n. n * r) (twice i)), omega (arith, twice i))
-
--- twelve of them
-pub places_all : (p v l r : ℕ) → l < v → p * v + l ≡ 2 ^ 12 * r → p ≡ (4096 * r) / v
-places_all p v l r a e = sym (ap (λ n. n / v) (sym e) ∙ digits_div p a)
 
 -- the pieces of a share as the code has them
 pub share_pieces : (t v f : ℕ) → 1 ≤ v → f ≡ (4096 * (t % v)) / v → share t v ≡ 4096 * (t / v) + f

@@ -62,9 +62,6 @@ module _ (f : ℕ → ℤ) where
       let go : ℕ → Result ℕ Fault = λ u. total_from f (n + 1) u (k - (n + 1)) in
       ap (λ q. and_then q go) p ∙ then_stepped n go (grown t x) ∙ sym (ap (total_from f n t) left ∙ ap (stepped n go) (sym (ap (grown t) e)))
 
-  pub total_all : (k n t : ℕ) → k ≤ n → total_from f n t (k - n) ≡ Ok t
-  total_all k n t h = let none : k - n ≡ 0 = omega arith in ap (total_from f n t) none
-
 -- ---- what it is
 first : (f : ℕ → ℤ) (n t : ℕ) → Inside f n → t ≡ squares n f → t ≤ largest_word → (largest_root < nat_abs (f n)) ⊎ (largest_word < t + square (f n)) → FirstBeyond f n
 first f n t i e l p = record {

@@ -4,11 +4,6 @@ use Rattle.statistics.proofs.Shares.{share_pieces, places_few, past_many}
 use Rattle.statistics.proofs.Totals.{fits_word, past_word}
 use Rattle.statistics.proofs.read_out.share_of.Goals as goal
 
-pub overflow_add-result : goal.overflow_add-result
-overflow_add-result c =
-    let few = places_few _ c.args.divisor c.twelve_places-places.result (mod-lt c.args.total c.requires) c.twelve_places-places.ensures in
-    omega (arith, c.in_ok-checked_mul.ensures)
-
 pub returns : goal.returns
 returns c =
     let few = places_few _ c.args.divisor c.twelve_places-places.result (mod-lt c.args.total c.requires) c.twelve_places-places.ensures in

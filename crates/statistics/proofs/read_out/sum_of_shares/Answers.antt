@@ -1,12 +1,8 @@
-use Rattle.std.proofs.Common.{◌+◌, Ok, Err, sym, ap, ◌∙◌, arith}
+use Rattle.std.proofs.Common.{Ok, Err, sym, ◌∙◌, arith}
 use Rattle.std.proofs.lemmas.Result.{err_from_is_err_and}
-use Rattle.statistics.specs.ReadOut.{read_from}
 use Rattle.statistics.proofs.Formulas.{part_stands}
-use Rattle.statistics.proofs.ReadOuts.{read_next, read_all}
+use Rattle.statistics.proofs.ReadOuts.{read_next}
 use Rattle.statistics.proofs.read_out.sum_of_shares.Goals as goal
-
-pub loop-number-init : goal.loop-number-init
-loop-number-init g c = ap (λ n. read_from g.T.Statistic.model.formula (g.S.Series.seen c.args.s.now) c.args.factor 1 n 0) (omega arith)
 
 pub add_share-requires : goal.add_share-requires
 add_share-requires g c = (c.args.parts, part_stands g.T.Statistic.model.formula (g.S.Series.seen c.args.s.now).size c.args.factor c.loop-number.number c.args.parts c.requires (omega arith) (omega arith))
@@ -18,12 +14,3 @@ returns-in_err-sum g c =
 
 pub loop-number-preserved : goal.loop-number-preserved
 loop-number-preserved g c = sym (read_next g.T.Statistic.model.formula (g.S.Series.seen c.args.s.now) c.args.factor c.args.parts c.loop-number.number c.loop-number.sum (Ok c.in_ok-sum.sum) (omega arith) c.in_ok-sum.ensures) ∙ c.loop-number.invariant
-
-pub returns-in_ok-sum : goal.returns-in_ok-sum
-returns-in_ok-sum g c =
-    sym (read_all g.T.Statistic.model.formula (g.S.Series.seen c.args.s.now) c.args.factor c.args.parts (c.loop-number.number + 1) c.in_ok-sum.sum (omega arith))
-    ∙ sym (read_next g.T.Statistic.model.formula (g.S.Series.seen c.args.s.now) c.args.factor c.args.parts c.loop-number.number c.loop-number.sum (Ok c.in_ok-sum.sum) (omega arith) c.in_ok-sum.ensures)
-    ∙ c.loop-number.invariant
-
-pub returns : goal.returns
-returns g c = sym (read_all g.T.Statistic.model.formula (g.S.Series.seen c.args.s.now) c.args.factor c.args.parts c.loop-number.number c.loop-number.sum (omega arith)) ∙ c.loop-number.invariant

@@ -1,5 +1,5 @@
-use Rattle.std.proofs.Common.{◌≡◌, ◌*◌, ◌^◌, ap, arith}
-use Rattle.statistics.proofs.Shares.{place_one, place_zero, places_all}
+use Rattle.std.proofs.Common.{◌*◌, ap, arith}
+use Rattle.statistics.proofs.Shares.{place_one, place_zero}
 use Rattle.statistics.proofs.read_out.twelve_places.Goals as goal
 use Rattle.statistics.proofs.read_out.twelve_places.Goals.{then-left-divisor, else-left-divisor}
 
@@ -11,8 +11,3 @@ loop-i-preserved c =
       | then-left-divisor w ↦ let h = place_one l.places v l.left c.args.rest l._i l.invariant.0 w.if-left-divisor.true l.invariant.1 l.invariant.2 in (omega (arith, w.left-is, h.0), omega (arith, ap (λ n. n * v) w.places-is, w.left-is, h.1), omega (arith, w.places-is, h.2))
       | else-left-divisor w ↦ let h = place_zero l.places v l.left c.args.rest l._i l.invariant.0 w.if-left-divisor.false l.invariant.1 l.invariant.2 in (omega (arith, w.left-is, h.0), omega (arith, ap (λ n. n * v) w.places-is, w.left-is, h.1), omega (arith, w.places-is, h.2))
     ]
-
-pub returns : goal.returns
-returns c =
-    let i : c.loop-i._i ≡ 12 = omega arith in
-    places_all _ c.args.divisor c.loop-i.left c.args.rest c.loop-i.invariant.0 (omega (arith, c.loop-i.invariant.1, ap (λ n. 2 ^ n * c.args.rest) i))
