@@ -97,6 +97,7 @@ impl<'a> Fields<'a> {
         Ok(Token::Word(name))
     }
 
+    // What to read is the grammar's data (`Field` stands in its table of rows), so this is a `match` and takes no closure.
     /// A space and a field. A copy reads on, so that a refusal leaves the place as it was.
     fn token(&mut self, field: Field) -> Result<Token<'a>, Malformed>
         ensures is { told token_says result self.new.place
@@ -133,6 +134,8 @@ impl<'a> Fields<'a> {
         Ok(*letter)
     }
 
+    // One typed reader for each token, which a rule of the project has as an enum: a trait over the three kinds of value
+    // would be longer than the readers.
     /// A space and a number.
     pub fn number(&mut self) -> Result<u64, Malformed>
         ensures is { told a_number result self.new.place

@@ -33,6 +33,7 @@ fn is_name(b: u8) -> bool
     b.is_ascii_digit() || b.is_ascii_lowercase()
 }
 
+// One function for each class of bytes: a trait over the classes would be longer than the functions.
 /// How many digits stand in front.
 pub(crate) fn leading_digits(bytes: &[u8]) -> usize
     ensures is { result ≡ prefix_len is_digit bytes.now }
@@ -65,6 +66,7 @@ pub(crate) fn value_of(digits: &[u8]) -> Option<u64>
 }
 
 /// The number with or without a minus, if 64 bits hold it as a signed number.
+// A flag beside the size: these two are what a line writes, and the grammar's definition takes them so.
 pub(crate) fn with_sign(minus: bool, size: u64) -> Option<i64>
     ensures { result ≡ fits64_signed minus size }
 {

@@ -32,6 +32,7 @@ fn statistic(name: &[u8]) -> Result<Variance, Fault>
     Variance::try_from(name).map_err(|why| Layer::Bench.refusal(why, 0))
 }
 
+// A statistic is a type, so a `match` leads to it from the enum, here and below; a table of functions would hand out pointers.
 // The part of a statistic.
 fn part_of<State>(
     run: &Run<State>,
@@ -64,6 +65,8 @@ impl Job {
         Ok(Job::Open(run))
     }
 
+    // Add and strike differ in their call alone. A function that takes the call as a closure was tried: its clause, that hands
+    // on what the closure leaves of the run, is longer than the two, and two goals stayed open.
     fn add(self, sample: i64) -> (Job, Result<Answer, Fault>)
         ensures { Does (stage_of self) (SaidLine.Add sample) result.1 (stage_of result.0) }
     {

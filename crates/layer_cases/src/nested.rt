@@ -11,6 +11,7 @@ use series::fault::Fault;
 use series::form::Series;
 use trend::detrended::Detrended;
 
+// A place and a count, as the definition of a window takes them, also where the place past the end is no number: no range.
 /// A window without its trend between even mirrors.
 pub(crate) type Nest<S> = EvenMirror<Detrended<Window<S>>>;
 

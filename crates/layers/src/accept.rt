@@ -6,6 +6,7 @@ use series::fault::{Cause, Fault, Layer};
 use series::form::FARTHEST;
 
 /// The reach of a layer, or the first refusal that applies to its shape and its reach.
+// A flag beside the reach, as the definition has it: each maker would only make an Option of the two for this to take apart.
 pub fn accept(shape: bool, reach: u64) -> Result<u64, Fault>
     ensures { result ≡ accepted shape reach }
 {

@@ -20,7 +20,7 @@ pub struct OddMirror<S: Series> {
     ghost near: { 3 * (S.seen of).bound ≤ farthest },
 }
 
-// A sample reflected in an end sample.
+// A sample reflected in an end sample. (In place, the two reflections left the value of the sample open.)
 fn reflect(end: i64, sample: i64) -> i64
     requires { (unsigned_abs end ≤ farthest) × (unsigned_abs sample ≤ farthest) }
     ensures { result ≡ about end sample }

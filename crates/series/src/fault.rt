@@ -31,6 +31,7 @@ pub enum Cause {
 
 impl Cause {
     /// The cause's number, which no other cause has.
+    // A method, and no `From<Cause> for u8`: that is the same line, under a name that does not say what the number is.
     pub fn number(self) -> u8
         ensures value { result ≡ cause_number self }
         ensures alone { (other : Cause) → result ≡ cause_number other → self ≡ other }
@@ -48,6 +49,8 @@ pub enum Layer {
 }
 
 impl Layer {
+    /// The layer's number.
+    // A method as that of a cause is; a trait over the two would be longer than both.
     pub fn number(self) -> u8
         ensures { result ≡ layer_number self }
     {

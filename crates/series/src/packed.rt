@@ -79,6 +79,7 @@ fn sample_at(bytes: &[u8], place: usize) -> i64
 
 impl<'a> Packed<'a> {
     /// The samples of some bytes, or why they are refused.
+    // No `TryFrom`: its one member would fold the three clauses into one.
     pub fn new(bytes: &'a [u8]) -> Result<Packed<'a>, Fault>
         ensures why { result_err result ≡ packed_refusal bytes.now }
         ensures tells { RefusalTells bytes.now (result_err result) }

@@ -8,6 +8,7 @@ pub(crate) use calls::in_range;
 pub use calls::{FULLEST, LARGEST};
 
 /// The samples of a run, the oldest first.
+// No model as a list: the laws of a series are over every value of the type, and a model's value does not carry its invariant.
 #[derive(Drop)]
 pub struct Store {
     samples: Vec<i64>,

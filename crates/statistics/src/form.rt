@@ -26,6 +26,8 @@ pub trait Statistic {
     fn parts(length: usize, factor: u64) -> Result<u64, Fault>
         ensures { result ≡ parts_of model.formula length factor };
 
+    // A factor and a part number stand side by side here and in the calls above, as in the formulas and in a job line:
+    // a struct of the two would be made and taken apart at every call.
     /// The divisor of a part.
     fn divisor(length: usize, factor: u64, part: u64) -> Result<u64, Fault>
         ensures { result ≡ divisor_of model.formula length factor part };
@@ -40,6 +42,7 @@ pub trait Statistic {
 }
 
 /// The number of parts, or the first refusal that applies to a length and a factor.
+// Two flags beside the number of parts, as the definition has them: an Option could not say which of the two fails.
 pub fn accept(length: usize, takes: bool, enough: bool, parts: u64) -> Result<u64, Fault>
     ensures { result ≡ accepted length takes enough parts }
 {

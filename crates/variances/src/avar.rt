@@ -22,7 +22,7 @@ fn enough(length: usize, factor: u64) -> bool
     factor < (length - length / 2) as u64
 }
 
-// a - 2b + c
+// a - 2b + c (in place, that the sum does not wrap stayed open)
 fn bend(a: i64, b: i64, c: i64) -> i64
     requires { (unsigned_abs a ≤ 2 ^ 36) × ((unsigned_abs b ≤ 2 ^ 36) × (unsigned_abs c ≤ 2 ^ 36)) }
     ensures { result ≡ (a -ℤ pos 2 *ℤ b) +ℤ c }
