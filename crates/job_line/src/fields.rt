@@ -10,11 +10,12 @@ pub struct Fields<'a> {
 }
 
 impl<'a> Fields<'a> {
-    ghost use Rattle.std.specs.Prelude.{◌≡◌, ◌≤◌, length, ◌+◌, ◌==◌, nat_lt, cond, take, drop, slice_index, OnErr};
+    ghost use Rattle.std.specs.Prelude.{◌≡◌, ◌≤◌, length, ◌+◌, cond, drop};
     ghost use Rattle.std.specs.Result.{result_map_both};
     ghost use Rattle.job_line.specs.Bytes.{stands_at};
     ghost use Rattle.job_line.specs.Grammar.{a_word, a_number, a_signed, field_at, next_at, end_at};
-    ghost use Rattle.job_line.specs.Said.{told, token_says};
+    ghost use Rattle.job_line.specs.Said.{token_says};
+    ghost use Rattle.job_line.specs.Read.{Reads, Takes, byte_at, bytes_at};
 
     /// A line of which nothing is read yet.
     pub fn new(line: &'a [u8]) -> Fields<'a>
@@ -29,6 +30,13 @@ impl<'a> Fields<'a> {
         ensures { result.now ≡ drop self.now.place self.now.line.now }
     {
         self.line.get(self.place..).unwrap_or(&[])
+    }
+
+    // The refusal of what stands at the place.
+    fn malformed(&self) -> Malformed
+        ensures { result.place ≡ self.now.place }
+    {
+        Malformed { place: self.place }
     }
 
     /// Whether the byte `b` stands next; it is passed if so.
@@ -47,13 +55,10 @@ impl<'a> Fields<'a> {
     /// The next `count` bytes, of which there has to be one.
     fn run(&mut self, count: usize) -> Result<&'a [u8], Malformed>
         requires { count ≤ length (drop self.old.place self.old.line.now) }
-        ensures is { told (λ run. run.now) result self.new.place
-            ≡ cond (count == 0) (Err self.old.place)
-            (Ok (take count (drop self.old.place self.old.line.now), self.old.place + count)) }
-        ensures line { self.new.line ≡ self.old.line }
+        ensures { Reads (λ run. run.now) (bytes_at count self.old.line.now self.old.place) self.old result self.new }
     {
         if count == 0 {
-            return Err(Malformed { place: self.place });
+            return Err(self.malformed());
         }
         let run = &self.rest()[..count];
         self.place += count;
@@ -62,9 +67,7 @@ impl<'a> Fields<'a> {
 
     /// A number.
     fn unsigned(&mut self) -> Result<Token<'a>, Malformed>
-        ensures is { told token_says result self.new.place
-            ≡ field_at Field.Number self.old.line.now self.old.place }
-        ensures line { self.new.line ≡ self.old.line }
+        ensures { Reads token_says (field_at Field.Number self.old.line.now self.old.place) self.old result self.new }
     {
         let first = self.place;
         let digits = self.run(leading_digits(self.rest()))?;
@@ -74,9 +77,7 @@ impl<'a> Fields<'a> {
 
     /// A number with or without a minus.
     fn signed(&mut self) -> Result<Token<'a>, Malformed>
-        ensures is { told token_says result self.new.place
-            ≡ field_at Field.Sample self.old.line.now self.old.place }
-        ensures line { self.new.line ≡ self.old.line }
+        ensures { Reads token_says (field_at Field.Sample self.old.line.now self.old.place) self.old result self.new }
     {
         let first = self.place;
         let minus = self.passes(b'-');
@@ -89,9 +90,7 @@ impl<'a> Fields<'a> {
 
     /// A name.
     fn name(&mut self) -> Result<Token<'a>, Malformed>
-        ensures is { told token_says result self.new.place
-            ≡ field_at Field.Name self.old.line.now self.old.place }
-        ensures line { self.new.line ≡ self.old.line }
+        ensures { Reads token_says (field_at Field.Name self.old.line.now self.old.place) self.old result self.new }
     {
         let name = self.run(leading_name(self.rest()))?;
         Ok(Token::Word(name))
@@ -100,14 +99,11 @@ impl<'a> Fields<'a> {
     // What to read is the grammar's data (`Field` stands in its table of rows), so this is a `match` and takes no closure.
     /// A space and a field. A copy reads on, so that a refusal leaves the place as it was.
     fn token(&mut self, field: Field) -> Result<Token<'a>, Malformed>
-        ensures is { told token_says result self.new.place
-            ≡ next_at field self.old.line.now self.old.place }
-        ensures line { self.new.line ≡ self.old.line }
-        ensures unmoved { OnErr result (self.new.place ≡ self.old.place) }
+        ensures { Takes token_says (next_at field self.old.line.now self.old.place) self.old result self.new }
     {
         let mut ahead = *self;
         if !ahead.passes(b' ') {
-            return Err(Malformed { place: self.place });
+            return Err(self.malformed());
         }
         let token = match field {
             Field::Sample => ahead.signed()?,
@@ -120,28 +116,19 @@ impl<'a> Fields<'a> {
 
     /// The next byte.
     pub fn letter(&mut self) -> Result<u8, Malformed>
-        ensures is { told (λ b. b) result self.new.place
-            ≡ cond (nat_lt self.old.place (length self.old.line.now))
-            (Ok (slice_index self.old.line.now self.old.place, self.old.place + 1))
-            (Err self.old.place) }
-        ensures line { self.new.line ≡ self.old.line }
-        ensures unmoved { OnErr result (self.new.place ≡ self.old.place) }
+        ensures { Takes (λ b. b) (byte_at self.old.line.now self.old.place) self.old result self.new }
     {
         let Some(letter) = self.rest().first() else {
-            return Err(Malformed { place: self.place });
+            return Err(self.malformed());
         };
         self.place += 1;
         Ok(*letter)
     }
 
-    // One typed reader for each token, which a rule of the project has as an enum: a trait over the three kinds of value
-    // would be longer than the readers.
+    // One typed reader for each case of a token: a trait over the three kinds of value would be longer than the readers.
     /// A space and a number.
     pub fn number(&mut self) -> Result<u64, Malformed>
-        ensures is { told a_number result self.new.place
-            ≡ next_at Field.Number self.old.line.now self.old.place }
-        ensures line { self.new.line ≡ self.old.line }
-        ensures unmoved { OnErr result (self.new.place ≡ self.old.place) }
+        ensures { Takes a_number (next_at Field.Number self.old.line.now self.old.place) self.old result self.new }
     {
         let Token::Number(n) = self.token(Field::Number)? else {
             unreachable!()
@@ -151,10 +138,7 @@ impl<'a> Fields<'a> {
 
     /// A space and a sample.
     pub fn sample(&mut self) -> Result<i64, Malformed>
-        ensures is { told a_signed result self.new.place
-            ≡ next_at Field.Sample self.old.line.now self.old.place }
-        ensures line { self.new.line ≡ self.old.line }
-        ensures unmoved { OnErr result (self.new.place ≡ self.old.place) }
+        ensures { Takes a_signed (next_at Field.Sample self.old.line.now self.old.place) self.old result self.new }
     {
         let Token::Signed(x) = self.token(Field::Sample)? else {
             unreachable!()
@@ -164,10 +148,7 @@ impl<'a> Fields<'a> {
 
     /// A space and a name.
     pub fn word(&mut self) -> Result<&'a [u8], Malformed>
-        ensures is { told (λ w. a_word w.now) result self.new.place
-            ≡ next_at Field.Name self.old.line.now self.old.place }
-        ensures line { self.new.line ≡ self.old.line }
-        ensures unmoved { OnErr result (self.new.place ≡ self.old.place) }
+        ensures { Takes (λ w. a_word w.now) (next_at Field.Name self.old.line.now self.old.place) self.old result self.new }
     {
         let Token::Word(w) = self.token(Field::Name)? else {
             unreachable!()
@@ -181,7 +162,7 @@ impl<'a> Fields<'a> {
             ≡ end_at self.now.line.now self.now.place }
     {
         if self.place < self.line.len() {
-            return Err(Malformed { place: self.place });
+            return Err(self.malformed());
         }
         Ok(())
     }

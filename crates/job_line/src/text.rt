@@ -5,6 +5,7 @@ ghost use Rattle.std.specs.List.{prefix_len};
 ghost use Rattle.job_line.specs.Split.{lines_of, in_line, line_end};
 
 /// How many bytes the first line has.
+// As the classes of bytes in a line's fields: a closure's clause gives a relation, where the definition takes a function.
 fn line_length(text: &[u8]) -> usize
     ensures is { result ≡ prefix_len in_line text.now }
     ensures within { result ≤ length text.now }
@@ -22,8 +23,8 @@ pub fn line_end(text: &[u8], from: usize) -> usize
     from + text.get(from..).map_or(0, line_length)
 }
 
-/// The lines of a text that are still to come.
-#[derive(Drop)]
+/// The lines of a text that are still to come. (The library's `split` has an empty last piece where a text ends in a line feed.)
+#[derive(Clone, Copy)]
 pub struct TextLines<'a> {
     pub rest: &'a [u8],
 }

@@ -33,7 +33,8 @@ fn is_name(b: u8) -> bool
     b.is_ascii_digit() || b.is_ascii_lowercase()
 }
 
-// One function for each class of bytes: a trait over the classes would be longer than the functions.
+// One function for each class of bytes. Taking the test as a closure gives a relation, where the definition takes a function;
+// a trait over the classes would be longer than the functions.
 /// How many digits stand in front.
 pub(crate) fn leading_digits(bytes: &[u8]) -> usize
     ensures is { result ≡ prefix_len is_digit bytes.now }
