@@ -1,12 +1,12 @@
 -- What a job does: line by line, the bench's own calls.
-use Rattle.std.specs.Prelude.{◌≡◌, ◌≢◌, ℕ, Bool, true, false, List, [], ◌∷◌, length, ℤ, Ok, Err, Result, nat_le}
+use Rattle.std.specs.Prelude.{◌≡◌, ℕ, Bool, true, false, List, [], ◌∷◌, length, ℤ, Ok, Err, Result, nat_le}
 use Rattle.series.specs.declared.fault.Cause.{Cause}
 use Rattle.series.specs.declared.fault.Cause.TheVariants.{MalformedLine, NotInThisState, UnknownName}
 use Rattle.series.specs.declared.fault.Layer.TheVariants.{Bench}
 use Rattle.series.specs.declared.fault.Fault.{Fault}
 use Rattle.series.specs.Faults.{fault}
 use Rattle.variances.specs.declared.name.Variance.{Variance}
-use Rattle.variances.specs.Names.{name_of, model_of}
+use Rattle.variances.specs.Names.{model_of, Named}
 use Rattle.bench.specs.Calls.{Added, Struck, PartAnswered, ReadAnswered}
 use Rattle.bench.specs.Runs.{held_by}
 use Rattle.job_text.specs.declared.answer.Answer.{Answer}
@@ -51,8 +51,8 @@ WhenOpen s a t does = elim s.open_yet [ true ↦ does | false ↦ Refuses s NotI
 
 -- the statistic that a word names, or the refusal of a word that names none
 abbrev pub Asked : List ℕ → Result Variance Fault → Type 0
-Asked w (Ok v) = w ≡ name_of v
-Asked w (Err f) = ((v : Variance) → w ≢ name_of v) × (f ≡ fault UnknownName Bench 0)
+Asked w (Ok v) = Named w (Ok v)
+Asked w (Err f) = Named w (Err UnknownName) × (f ≡ fault UnknownName Bench 0)
 
 -- a call that asks a statistic by its name
 abbrev pub AskedBy : Stage → List ℕ → Outcome → Stage → (Variance → Type 0) → Type 0

@@ -65,8 +65,8 @@ impl Job {
         Ok(Job::Open(run))
     }
 
-    // Add and strike differ in their call alone. A function that takes the call as a closure was tried: its clause, that hands
-    // on what the closure leaves of the run, is longer than the two, and two goals stayed open.
+    // Add and strike differ in their call alone. A function that takes the call as a closure needs a clause on what the closure
+    // leaves of the run, which is longer than the two, and leaves two goals open.
     fn add(self, sample: i64) -> (Job, Result<Answer, Fault>)
         ensures { Does (stage_of self) (SaidLine.Add sample) result.1 (stage_of result.0) }
     {

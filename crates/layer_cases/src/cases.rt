@@ -1,11 +1,29 @@
 // Layers over a made series: each alone at the edges of its shape and reach, and several over one another.
-use crate::nested::{mirrored_differences, mirrored_window, nested_sample};
+use crate::RUN;
+use crate::nested::{mirrored_differences, nest, nested_sample};
 use crate::probe::Probe;
 use crate::show::{show, show_sample};
 use layers::window::Window;
 use series::fault::Fault;
 use series::form::{FARTHEST, LONGEST, Series};
 use std::io;
+
+// What is shown of each pair of two lists' items, in order.
+fn each_pair<A: Copy, B: Copy, F: FnMut(A, B) -> io::Result<()>>(
+    firsts: &[A],
+    seconds: &[B],
+    mut show: F,
+) -> io::Result<()>
+    requires { F.IsAlwaysCallable show }
+{
+    let pairs = firsts
+        .iter()
+        .flat_map(|first| seconds.iter().map(move |second| (*first, *second)));
+    for (first, second) in pairs {
+        show(first, second)?;
+    }
+    Ok(())
+}
 
 /// A layer that asks for nothing but a series, at every length with every reach.
 pub(crate) fn over_each<L: Series + Drop, F: Fn(Probe) -> Result<L, Fault>>(
@@ -17,27 +35,19 @@ pub(crate) fn over_each<L: Series + Drop, F: Fn(Probe) -> Result<L, Fault>>(
 ) -> io::Result<()>
     requires { F.IsAlwaysCallable make.now }
 {
-    let pairs = lengths.iter().flat_map(|length| reaches
-        .iter()
-        .map(move |reach| (*length, *reach)));
-    for (length, reach) in pairs {
+    each_pair(lengths, reaches, |length, reach| {
         println!(rt; "== {name} {length} {reach}")?;
-        show(rt, make(Probe::new(length, reach)))?;
-    }
-    Ok(())
+        show(rt, make(Probe::new(length, reach)))
+    })
 }
 
 fn windows_of(rt: &HostRuntime, s: &Probe, firsts: &[usize], counts: &[usize]) -> io::Result<()> {
     let length = s.length();
     let reach = s.reach();
-    let pairs = firsts
-        .iter()
-        .flat_map(|first| counts.iter().map(move |count| (*first, *count)));
-    for (first, count) in pairs {
+    each_pair(firsts, counts, |first, count| {
         println!(rt; "== window {length} {reach} {first} {count}")?;
-        show(rt, Window::new(s, first, count))?;
-    }
-    Ok(())
+        show(rt, Window::new(s, first, count))
+    })
 }
 
 /// Windows of every place and count, near the length and near the largest numbers.
@@ -68,20 +78,16 @@ fn nested_samples(rt: &HostRuntime, s: &Probe, first: usize, count: usize) -> io
 }
 
 fn nests_of(rt: &HostRuntime, length: usize) -> io::Result<()> {
-    let s = Probe::new(length, 1_048_576);
-    let counts = [0, 1, 2, 3, 6, 9, 13, 96, 161, 162, 228, 229];
+    let s = Probe::new(length, RUN);
     let firsts = [0, 1, 7, 17, 204];
-    let pairs = firsts
-        .iter()
-        .flat_map(|first| counts.iter().map(move |count| (*first, *count)));
-    for (first, count) in pairs {
+    let counts = [0, 1, 2, 3, 6, 9, 13, 96, 161, 162, 228, 229];
+    each_pair(&firsts, &counts, |first, count| {
         println!(rt; "== nest {length} {first} {count}")?;
-        show(rt, mirrored_window(&s, first, count))?;
+        show(rt, nest(&s, first, count))?;
         println!(rt; "== nest of differences {length} {first} {count}")?;
         show(rt, mirrored_differences(&s, first, count))?;
-        nested_samples(rt, &s, first, count)?;
-    }
-    Ok(())
+        nested_samples(rt, &s, first, count)
+    })
 }
 
 /// Windows without their trend between even mirrors, of samples and of differences.

@@ -12,12 +12,13 @@ use layers::differences::Differences;
 use mirrors::even_mirror::EvenMirror;
 use mirrors::odd_mirror::OddMirror;
 use series::form::FARTHEST;
+use series::store::LARGEST;
 use std::io;
 use stores::over_stores;
 use trend::detrended::Detrended;
 
 // the reach of a run and of packed bytes
-const RUN: u64 = 1_048_576;
+pub(crate) const RUN: u64 = LARGEST as u64;
 
 // Lengths and reaches on both sides of every edge.
 fn one_by_one(rt: &HostRuntime) -> io::Result<()> {

@@ -11,25 +11,14 @@ use series::fault::Fault;
 use series::form::Series;
 use trend::detrended::Detrended;
 
-// A place and a count, as the definition of a window takes them, also where the place past the end is no number: no range.
 /// A window without its trend between even mirrors.
 pub(crate) type Nest<S> = EvenMirror<Detrended<Window<S>>>;
 
-fn nest<S: Series + Drop>(of: S, first: usize, count: usize) -> Result<Nest<S>, Fault>
+/// The nest over a series, which may be a lent one.
+pub(crate) fn nest<S: Series + Drop>(of: S, first: usize, count: usize) -> Result<Nest<S>, Fault>
     ensures { through ⟦<Nest<S> as Series>⟧.seen result ≡ nest_of first count (S.seen of) }
 {
     EvenMirror::new(Detrended::new(Window::new(of, first, count)?)?)
-}
-
-/// The nest over a series that is lent.
-pub(crate) fn mirrored_window<'a, S: Series>(
-    s: &'a S,
-    first: usize,
-    count: usize,
-) -> Result<Nest<&'a S>, Fault>
-    ensures { through ⟦<Nest<&'a S> as Series>⟧.seen result ≡ nest_of first count (S.seen s.now) }
-{
-    nest(s, first, count)
 }
 
 /// The nest over the differences of a series.

@@ -1,5 +1,5 @@
 // Layers over packed bytes and over a run.
-use crate::nested::{mirrored_differences, mirrored_window};
+use crate::nested::{mirrored_differences, nest};
 use crate::show::show;
 use bench::run::OpenRun;
 use layers::differences::Differences;
@@ -45,7 +45,7 @@ impl Over<'_> {
     }
 
     fn over_one_another<S: Series>(&self, s: &S) -> io::Result<()> {
-        self.show("nest", mirrored_window(s, 2, 3))?;
+        self.show("nest", nest(s, 2, 3))?;
         self.show("nest of differences", mirrored_differences(s, 1, 3))?;
         self.show("odd of even", odd_of_even(s))
     }

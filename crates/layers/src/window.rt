@@ -9,6 +9,7 @@ use series::fault::Fault;
 use series::form::Series;
 
 /// Some samples of a series in a row.
+// A place and a count, as the definition takes them, also where the place past the last is no number: so no range.
 #[derive(Drop)]
 pub struct Window<S: Series> {
     of: S,

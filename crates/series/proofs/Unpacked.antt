@@ -1,6 +1,7 @@
 -- Packed samples: how many there are, the one at a place, and what their refusal tells.
 use Rattle.std.proofs.Common.{◌≡◌, ℕ, zero, suc, ◌-◌, ◌*◌, ◌/◌, ◌%◌, ◌<◌, ◌≤◌, Bool, true, false, cond, not, eqb, ltb, leb, List, [], ◌∷◌, length, get_or, take, drop, ℤ, pos, nat_abs, ◌⊎◌, inl, inr, Some, None, Option, sym, refl, ap, ◌∙◌, zero-le, arith}
 use Rattle.std.proofs.lemmas.Grind.{common_steps}
+use Rattle.std.proofs.lemmas.Option.{same_Some}
 use Rattle.std.proofs.lemmas.List.{get_or-drop, get_or_past, take_rest}
 use Rattle.std.proofs.lemmas.List.Quantifiers.{position-Some}
 use Rattle.std.proofs.lemmas.List.Sums.{fails_before_first}
@@ -69,17 +70,14 @@ not_beyond : (o : Option ℕ) → beyond o ≡ None → o ≡ None
 not_beyond None e = refl
 not_beyond (Some k) e = let z : ◌≡◌ {A = ℕ} 0 1 = cc in absurd (omega arith)
 
-some_same : {f g : Fault} → Some f ≡ Some g → f ≡ g
-some_same e = cc
-
 -- refusals of other causes
 apart : {A : Type 0} {f g : Fault} → Some f ≡ Some g → (cause_number f.cause ≡ cause_number g.cause → ⊥) → A
-apart e n = absurd (n (ap (λ (h : Fault). cause_number h.cause) (some_same e)))
+apart e n = absurd (n (ap (λ (h : Fault). cause_number h.cause) (same_Some _ _ e)))
 
 -- a refusal for range comes from the samples
 beyond_at : (o : Option ℕ) (p : ℕ) → beyond o ≡ Some (fault OutOfRange Series p) → o ≡ Some p
 beyond_at None p e = let z : ◌≡◌ {A = ℕ} 0 1 = cc in absurd (omega arith)
-beyond_at (Some k) p e = ap (λ (h : Fault). Some h.place) (some_same e)
+beyond_at (Some k) p e = ap (λ (h : Fault). Some h.place) (same_Some _ _ e)
 
 -- the refusal, by its two tests
 abbrev which : List ℕ → Bool → Bool → Option Fault

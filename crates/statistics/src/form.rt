@@ -26,8 +26,8 @@ pub trait Statistic {
     fn parts(length: usize, factor: u64) -> Result<u64, Fault>
         ensures { result ≡ parts_of model.formula length factor };
 
-    // A factor and a part number stand side by side here and in the calls above, as in the formulas and in a job line:
-    // a struct of the two would be made and taken apart at every call.
+    // A length, a factor and a part number stand side by side here, and a factor and a part number in `bench` and `job_text`,
+    // as in the formulas and in a job line: a struct of them would be made and taken apart at every call.
     /// The divisor of a part.
     fn divisor(length: usize, factor: u64, part: u64) -> Result<u64, Fault>
         ensures { result ≡ divisor_of model.formula length factor part };
@@ -58,7 +58,7 @@ pub fn accept(length: usize, takes: bool, enough: bool, parts: u64) -> Result<u6
     Ok(parts)
 }
 
-/// The number of parts, where the part is one of them.
+/// The number of parts, where the part is one of them. (It takes what `parts` answers as it is, as the definition does.)
 pub fn admit(parts: Result<u64, Fault>, part: u64) -> Result<u64, Fault>
     ensures { result ≡ admitted parts part }
 {

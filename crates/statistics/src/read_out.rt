@@ -28,7 +28,7 @@ fn twelve_places(rest: u64, divisor: u64) -> u64
     places
 }
 
-// A part's share, where a word holds it. (Total and divisor are two numbers wherever a part goes, by a rule of the project.)
+// A part's share, where a word holds it. (A part is the two numbers, total and divisor, from the statistic to the job's line.)
 fn share_of(total: u64, divisor: u64) -> Option<u64>
     requires { 1 ≤ divisor }
     ensures { result ≡ fitting (share total divisor) }

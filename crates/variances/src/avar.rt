@@ -1,6 +1,7 @@
 // The overlapping Allan variance.
 ghost use Rattle.std.specs.Prelude.{◌≡◌, ℕ, ◌+◌, ◌-◌, ◌*◌, ◌^◌, ◌<◌, ◌≤◌, pos, ◌+ℤ◌, ◌-ℤ◌, ◌*ℤ◌, Ok, nat_lt, unsigned_abs};
 ghost use Rattle.algebra.specs.Differences.{second};
+ghost use Rattle.series.specs.Limits.{farthest};
 ghost use Rattle.series.specs.Seen.{Seen, samples};
 ghost use Rattle.statistics.specs.Totals.{gated};
 ghost use Rattle.variances.specs.Avar.{avar};
@@ -24,7 +25,7 @@ fn enough(length: usize, factor: u64) -> bool
 
 // a - 2b + c (in place, that the sum does not wrap stayed open)
 fn bend(a: i64, b: i64, c: i64) -> i64
-    requires { (unsigned_abs a ≤ 2 ^ 36) × ((unsigned_abs b ≤ 2 ^ 36) × (unsigned_abs c ≤ 2 ^ 36)) }
+    requires { (unsigned_abs a ≤ farthest) × ((unsigned_abs b ≤ farthest) × (unsigned_abs c ≤ farthest)) }
     ensures { result ≡ (a -ℤ pos 2 *ℤ b) +ℤ c }
 {
     a - 2 * b + c
@@ -70,8 +71,8 @@ impl Statistic for Avar {
     }
 
     fn divisor(length: usize, factor: u64, part: u64) -> Result<u64, Fault> {
-        admit(Self::parts(length, factor), part)?;
-        Ok(2 * (factor * factor) * (length as u64 - 2 * factor))
+        let terms = Self::terms(length, factor, part)?;
+        Ok(2 * (factor * factor) * terms)
     }
 
     fn terms(length: usize, factor: u64, part: u64) -> Result<u64, Fault> {
