@@ -45,12 +45,7 @@ impl<'a> Iterator for Samples<'a> {
 fn first_beyond(bytes: &[u8]) -> Option<usize>
     ensures { result ≡ first_beyond (unpacked bytes.now) }
 {
-    for (place, sample) in Samples(bytes).enumerate() {
-        if !in_range(sample) {
-            return Some(place);
-        }
-    }
-    None
+    Samples(bytes).position(|sample| !in_range(sample))
 }
 
 // Whether bytes are accepted, or why not.
