@@ -9,6 +9,8 @@ use Rattle.variances.specs.declared.name.Variance.{Variance}
 use Rattle.variances.specs.Names.{model_of, Named}
 use Rattle.bench.specs.Calls.{Added, Struck, PartAnswered, ReadAnswered}
 use Rattle.bench.specs.Runs.{held_by}
+use Rattle.bench.specs.declared.run.Run.{Run}
+use Rattle.bench.specs.declared.run.Open.{Open as StillOpen}
 use Rattle.job_text.specs.declared.answer.Answer.{Answer}
 use Rattle.job_text.specs.declared.answer.Answer.TheVariants as answer
 use Rattle.job_text.specs.declared.job.Job.{Job}
@@ -48,6 +50,11 @@ Refuses s cause place a t = (a ≡ Err (fault cause Bench place)) × (t ≡ s)
 -- a call that only an open run takes
 abbrev pub WhenOpen : Stage → Outcome → Stage → Type 0 → Type 0
 WhenOpen s a t does = elim s.open_yet [ true ↦ does | false ↦ Refuses s NotInThisState 0 a t ]
+
+-- a call that an open run takes, as it answers and leaves the run; a released run refuses it and stays
+abbrev pub OnOpen : (Run StillOpen → Outcome → Run StillOpen → Type 0) → Job → Outcome → Job → Type 0
+OnOpen call (Open run) a j = (after : Run StillOpen) × (j ≡ Open after) × call run a after
+OnOpen call (Released run) a j = (a ≡ Err (fault NotInThisState Bench 0)) × (j ≡ Released run)
 
 -- the statistic that a word names, or the refusal of a word that names none
 abbrev pub Asked : List ℕ → Result Variance Fault → Type 0

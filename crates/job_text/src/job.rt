@@ -6,7 +6,8 @@ ghost use Rattle.series.specs.Faults.{fault};
 ghost use Rattle.variances.specs.Names.{model_of};
 ghost use Rattle.bench.specs.Calls.{PartAnswered, ReadAnswered};
 ghost use Rattle.bench.specs.Runs.{held_by};
-ghost use Rattle.job_text.specs.Jobs.{stage_of, fresh, Asked, Does, Worked};
+ghost use Rattle.std.specs.Fn.{FnOnceReturnsAtMut};
+ghost use Rattle.job_text.specs.Jobs.{stage_of, fresh, Asked, OnOpen, Does, Worked};
 ghost use Rattle.job_line.specs.declared.lines.Line.{Line as SaidLine};
 
 use crate::answer::Answer;
@@ -65,30 +66,18 @@ impl Job {
         Ok(Job::Open(run))
     }
 
-    // Add and strike differ in their call alone. A function that takes the call as a closure needs a clause on what the closure
-    // leaves of the run, which is longer than the two, and leaves two goals open.
-    fn add(self, sample: i64) -> (Job, Result<Answer, Fault>)
-        ensures { Does (stage_of self) (SaidLine.Add sample) result.1 (stage_of result.0) }
+    // What a call answers that only an open run takes; a released run refuses it.
+    fn on_open<F: FnOnce(&mut OpenRun) -> Result<Answer, Fault>>(
+        self,
+        call: F,
+    ) -> (Job, Result<Answer, Fault>)
+        requires { F.IsAlwaysCallable call }
+        ensures { OnOpen (FnOnceReturnsAtMut F.FnOnce call) self result.1 result.0 }
     {
         match self {
             Job::Open(mut run) => {
-                let count = run.add(sample);
-                (Job::Open(run), count.map(Answer::Added))
-            }
-            released => (
-                released,
-                Err(Layer::Bench.refusal(Cause::NotInThisState, 0)),
-            ),
-        }
-    }
-
-    fn strike(self) -> (Job, Result<Answer, Fault>)
-        ensures { Does (stage_of self) SaidLine.Strike result.1 (stage_of result.0) }
-    {
-        match self {
-            Job::Open(mut run) => {
-                let count = run.strike();
-                (Job::Open(run), count.map(Answer::Struck))
+                let answer = call(&mut run);
+                (Job::Open(run), answer)
             }
             released => (
                 released,
@@ -139,8 +128,8 @@ impl Job {
         ensures { Does (stage_of self) line.entry result.1 (stage_of result.0) }
     {
         match line {
-            Line::Add(sample) => self.add(sample),
-            Line::Strike => self.strike(),
+            Line::Add(sample) => self.on_open(|run| run.add(sample).map(Answer::Added)),
+            Line::Strike => self.on_open(|run| run.strike().map(Answer::Struck)),
             Line::Release => self.release(),
             Line::Part(name, factor, number) => {
                 let answer = self.part(name, factor, number);
