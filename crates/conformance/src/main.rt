@@ -20,7 +20,7 @@ fn work_job(rt: &HostRuntime, name: &str) -> io::Result<()> {
     rt.print(out.as_str())
 }
 
-// A sample, as it is printed.
+// A sample, as it is printed here and by `layer_cases`, with which this program shares no crate that prints.
 #[derive(Clone, Copy)]
 struct Sample(i64);
 

@@ -19,7 +19,7 @@ use std::alloc::{AllocError, Global};
 use variances::avar::Avar;
 use variances::name::Variance;
 
-/// A job's run, which is open until it is released.
+/// A job's run, which is open until it is released. (So a call that either run takes has two arms, over two types.)
 #[derive(Drop)]
 pub enum Job {
     Open(OpenRun),

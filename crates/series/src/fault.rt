@@ -50,7 +50,7 @@ pub enum Layer {
 
 impl Layer {
     /// The layer's number.
-    // A method as that of a cause is; a trait over the two would be longer than both.
+    // A method, as that of a cause is; a trait over the two would be longer than both.
     pub fn number(self) -> u8
         ensures { result ≡ layer_number self }
     {
