@@ -37,6 +37,7 @@ pub type OpenRun = Run<Open>;
 pub type ReleasedRun = Run<Released>;
 
 impl Run<Open> {
+    // (Clauses read a run by the samples that it holds, as those of a store do, and for the same reason by no model.)
     /// An empty run. It may fail for want of memory only, and no later call may.
     pub fn open(heap: Global) -> Result<OpenRun, AllocError>
         ensures { IfOk result (λ run. held_by run ≡ []) }
@@ -77,7 +78,7 @@ impl Run<Open> {
     }
 }
 
-/// What a run answers in either state.
+/// What a run answers in either state. (A factor and a part number are two numbers, as in the formulas and in a job line.)
 impl<State> Run<State> {
     /// The total and the divisor of a part.
     pub fn part<T: Statistic>(&self, factor: u64, number: u64) -> Result<(u64, u64), Fault>

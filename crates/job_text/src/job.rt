@@ -1,6 +1,6 @@
 // A job, worked line by line.
 ghost use Rattle.std.specs.Prelude.{◌≡◌, Ok, Err, IfOk};
-ghost use Rattle.series.specs.declared.fault.Cause.TheVariants.{UnknownName};
+ghost use Rattle.series.specs.declared.fault.Cause.TheVariants.{NotInThisState};
 ghost use Rattle.series.specs.declared.fault.Layer.TheVariants.{Bench};
 ghost use Rattle.series.specs.Faults.{fault};
 ghost use Rattle.variances.specs.Names.{model_of};
@@ -57,6 +57,13 @@ fn read_out_of<State>(run: &Run<State>, which: Variance, factor: u64) -> Result<
     }
 }
 
+// The refusal of a call that a released run does not take.
+fn not_open() -> Fault
+    ensures { result ≡ fault NotInThisState Bench 0 }
+{
+    Layer::Bench.refusal(Cause::NotInThisState, 0)
+}
+
 impl Job {
     /// A job with an empty run. It may fail for want of memory only.
     pub fn open(heap: Global) -> Result<Job, AllocError>
@@ -66,7 +73,7 @@ impl Job {
         Ok(Job::Open(run))
     }
 
-    // What a call answers that only an open run takes; a released run refuses it.
+    // What a call answers that only an open run takes, and that leaves it open; a released run refuses it.
     fn on_open<F: FnOnce(&mut OpenRun) -> Result<Answer, Fault>>(
         self,
         call: F,
@@ -79,10 +86,7 @@ impl Job {
                 let answer = call(&mut run);
                 (Job::Open(run), answer)
             }
-            released => (
-                released,
-                Err(Layer::Bench.refusal(Cause::NotInThisState, 0)),
-            ),
+            released => (released, Err(not_open())),
         }
     }
 
@@ -94,10 +98,7 @@ impl Job {
                 let count = run.length();
                 (Job::Released(run.release()), Ok(Answer::Released(count)))
             }
-            released => (
-                released,
-                Err(Layer::Bench.refusal(Cause::NotInThisState, 0)),
-            ),
+            released => (released, Err(not_open())),
         }
     }
 

@@ -16,9 +16,7 @@ fn each_pair<A: Copy, B: Copy, F: FnMut(A, B) -> io::Result<()>>(
 ) -> io::Result<()>
     requires { F.IsAlwaysCallable show }
 {
-    let pairs = firsts
-        .iter()
-        .flat_map(|first| seconds.iter().map(move |second| (*first, *second)));
+    let pairs = firsts.iter().flat_map(|first| seconds.iter().map(move |second| (*first, *second)));
     for (first, second) in pairs {
         show(first, second)?;
     }

@@ -14,6 +14,7 @@ use trend::detrended::Detrended;
 /// A window without its trend between even mirrors.
 pub(crate) type Nest<S> = EvenMirror<Detrended<Window<S>>>;
 
+// A place and a count, as a window takes them.
 /// The nest over a series, which may be a lent one.
 pub(crate) fn nest<S: Series + Drop>(of: S, first: usize, count: usize) -> Result<Nest<S>, Fault>
     ensures { through ⟦<Nest<S> as Series>⟧.seen result ≡ nest_of first count (S.seen of) }

@@ -11,7 +11,7 @@ fn checksum<S: Series>(s: &S) -> Result<u64, Fault> {
     })
 }
 
-/// A sample, or its refusal.
+/// A sample, or its refusal. (A type for the printed sample, as `conformance` has one for its many, would be longer.)
 pub(crate) fn show_sample(rt: &HostRuntime, answer: Result<i64, Fault>) -> io::Result<()> {
     match answer {
         Ok(sample) => println!(rt; "X {sample}"),

@@ -9,6 +9,7 @@ use series::form::FARTHEST;
 // shape and the laws of each as members, and each layer would have to give them.
 /// The reach of a layer, or the first refusal that applies to its shape and its reach.
 // A flag beside the reach, as the definition has it: each maker would only make an Option of the two for this to take apart.
+// (The makers here ask whether, and not for the reach.)
 pub fn accept(shape: bool, reach: u64) -> Result<u64, Fault>
     ensures { result ≡ accepted shape reach }
 {

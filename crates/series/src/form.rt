@@ -23,6 +23,7 @@ pub trait Series {
     fn reach(&self) -> u64
         ensures { result ≡ (seen self.now).bound };
 
+    // Each series tests the place itself: an inner read that need not would have a precondition, which a caller had to meet.
     /// The sample at a place, from 0.
     fn sample(&self, place: usize) -> Result<i64, Fault>
         ensures { result ≡ sample_of (seen self.now) place };

@@ -25,7 +25,7 @@ pub struct Detrended<S: Series> {
     ghost near: { 5 * scale_of (S.seen of).size * (S.seen of).bound ≤ farthest },
 }
 
-// The sum of some samples in a row. (As a fold, the bound of the sum stayed open.)
+// The sum of some samples in a row, by a place and a count as a window's. (As a fold, the bound of the sum stayed open.)
 fn sum<S: Series>(s: &S, first: usize, count: usize) -> Result<i64, Fault>
     requires { first + count ≤ (S.seen s.now).size }
     ensures is { result ≡ Ok (sum_z count (onward first (samples (S.seen s.now)))) }
