@@ -1,7 +1,8 @@
 // The job program: a text on standard input, its answers on standard output.
 #![tactic(auto)]
 
-ghost use Rattle.std.specs.Prelude.{◌≡◌, ◌≤◌, IfSome, take, IfOk, vec_len};
+ghost use Rattle.std.specs.Prelude.{◌≡◌, ◌+◌, ◌≤◌, IfSome, take, IfOk, vec_len};
+ghost use Rattle.job_text.specs.Jobs.{most};
 
 use job_text::report::print_out;
 use job_text::whole::{MOST, work_text};
@@ -14,8 +15,8 @@ const ROOM: usize = MOST + 1;
 
 // The bytes of the input, to its end or as many as there is room for. What a reader gave past its limit would be cut.
 fn text_of<R: Read + Drop>(heap: Global, input: R) -> io::Result<Vec<u8>>
-    ensures few { IfOk result (λ text. vec_len text ≤ 65537) }
-    ensures bytes { IfSome (R.remaining input) (λ bytes. IfOk result (λ text. text.items ≡ take 65537 bytes)) }
+    ensures few { IfOk result (λ text. vec_len text ≤ most + 1) }
+    ensures bytes { IfSome (R.remaining input) (λ bytes. IfOk result (λ text. text.items ≡ take (most + 1) bytes)) }
 {
     let mut text = Vec::new(heap);
     input.take(ROOM as u64).read_to_end(&mut text)?;

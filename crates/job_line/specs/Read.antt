@@ -10,7 +10,7 @@ Reads says read b r a = (told says r a.place ≡ read) × (a.line ≡ b.line)
 
 -- and a refusal leaves the place where it was
 abbrev pub Takes : {A B : Type 0} → (A → B) → Result (B × ℕ) ℕ → Fields → Result A Malformed → Fields → Type 0
-Takes says read b r a = (told says r a.place ≡ read) × (a.line ≡ b.line) × OnErr r (a.place ≡ b.place)
+Takes says read b r a = Reads says read b r a × OnErr r (a.place ≡ b.place)
 
 -- the byte at a place, and so many bytes from a place on, of which there has to be one
 abbrev pub byte_at : List ℕ → ℕ → Result (ℕ × ℕ) ℕ
