@@ -13,11 +13,12 @@ use std::{fmt, fs, io};
 use variances::avar::Avar;
 
 // One stored job.
-fn work_job(rt: &HostRuntime, name: &str) -> io::Result<()> {
+fn work_job(rt: &HostRuntime, name: &str) -> anyhow::Result<()> {
     let text = fs::read(rt, name)?;
     let answers = work_text(rt.alloc(), text.as_slice())?;
     let out = print_out(rt.alloc(), answers.as_slice())?;
-    rt.print(out.as_str())
+    rt.print(out.as_str())?;
+    Ok(())
 }
 
 // A sample, as it is printed here and by `layer_cases`, with which this program shares no crate that prints.
@@ -62,20 +63,21 @@ fn print_series<S: Series>(rt: &HostRuntime, s: &S) -> io::Result<()> {
 }
 
 // One store of packed samples.
-fn work_packed(rt: &HostRuntime, name: &str) -> io::Result<()> {
+fn work_packed(rt: &HostRuntime, name: &str) -> anyhow::Result<()> {
     let bytes = fs::read(rt, name)?;
     match Packed::new(bytes.as_slice()) {
-        Ok(s) => print_series(rt, &&s),
-        Err(fault) => println!(rt; "{fault}"),
+        Ok(s) => print_series(rt, &&s)?,
+        Err(fault) => println!(rt; "{fault}")?,
     }
+    Ok(())
 }
 
 // What is done with each of the names that a file lists.
-fn each_name<F: Fn(&HostRuntime, &str) -> io::Result<()>>(
+fn each_name<F: Fn(&HostRuntime, &str) -> anyhow::Result<()>>(
     rt: &HostRuntime,
     list: &str,
     work: F,
-) -> io::Result<()>
+) -> anyhow::Result<()>
     requires { F.IsAlwaysCallable work }
 {
     let names = fs::read_to_string(rt, list)?;
@@ -86,7 +88,8 @@ fn each_name<F: Fn(&HostRuntime, &str) -> io::Result<()>>(
     Ok(())
 }
 
-fn main(rt: HostRuntime) -> io::Result<()> {
+// An error ends it by the kit's crate for the errors of programs, which prints the message.
+fn main(rt: HostRuntime) -> anyhow::Result<()> {
     each_name(&rt, "jobs.txt", work_job)?;
     each_name(&rt, "packed.txt", work_packed)
 }

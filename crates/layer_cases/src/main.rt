@@ -61,13 +61,14 @@ fn one_by_one(rt: &HostRuntime) -> io::Result<()> {
     )
 }
 
-fn run(rt: &HostRuntime) -> io::Result<()> {
+fn run(rt: &HostRuntime) -> anyhow::Result<()> {
     windows(rt)?;
     one_by_one(rt)?;
     nests(rt)?;
     over_stores(rt)
 }
 
-fn main(rt: HostRuntime) -> io::Result<()> {
+// An error ends it by the kit's crate for the errors of programs, which prints the message.
+fn main(rt: HostRuntime) -> anyhow::Result<()> {
     run(&rt)
 }

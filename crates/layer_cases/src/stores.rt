@@ -55,27 +55,29 @@ impl Over<'_> {
         self.over_one_another(s)
     }
 
-    fn packed(&self, samples: &[i32]) -> io::Result<()> {
+    fn packed(&self, samples: &[i32]) -> anyhow::Result<()> {
         let bytes = samples.iter().flat_map(|sample| sample.to_le_bytes());
         let bytes = bytes.collect::<Vec<u8>>(self.rt.alloc())?;
         match Packed::new(bytes.as_slice()) {
             // a lent series, lent
-            Ok(s) => self.series(&&s),
-            Err(fault) => println!(self.rt; "{fault}"),
+            Ok(s) => self.series(&&s)?,
+            Err(fault) => println!(self.rt; "{fault}")?,
         }
+        Ok(())
     }
 
-    fn run(&self, samples: &[i32]) -> io::Result<()> {
+    fn run(&self, samples: &[i32]) -> anyhow::Result<()> {
         let mut run = OpenRun::open(self.rt.alloc())?;
         for sample in samples {
             let _ = run.add(i64::from(*sample));
         }
-        self.series(&run)
+        self.series(&run)?;
+        Ok(())
     }
 }
 
 /// Every layer over two lists of samples, packed and in a run.
-pub(crate) fn over_stores(rt: &HostRuntime) -> io::Result<()> {
+pub(crate) fn over_stores(rt: &HostRuntime) -> anyhow::Result<()> {
     let over = |name| Over { rt, name };
     over("packed five").packed(&FIVE_DAYS)?;
     over("run five").run(&FIVE_DAYS)?;
