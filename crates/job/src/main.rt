@@ -18,7 +18,8 @@ fn text_of<R: Read + Drop>(heap: Global, input: R) -> io::Result<Vec<u8>>
     ensures few { IfOk result (λ text. vec_len text ≤ most + 1) }
     ensures bytes { IfSome (R.remaining input) (λ bytes. IfOk result (λ text. text.items ≡ take (most + 1) bytes)) }
 {
-    let mut text = Vec::new(heap);
+    // room for all of it and a byte that stays free: the library's reader grows a full vector before it sees the end
+    let mut text = Vec::with_capacity(heap, ROOM + 1)?;
     input.take(ROOM as u64).read_to_end(&mut text)?;
     text.truncate(ROOM);
     Ok(text)

@@ -11,11 +11,15 @@ pub fn print_out(heap: Global, answers: &[Result<Answer, Fault>]) -> Result<Stri
     ensures { IfOk result (λ s. string_bytes s ≡ printed answers.now) }
 {
     let mut out = String::new(heap);
+    // a line is written apart, so that the text grows by whole lines
+    let mut line = String::new(heap);
     for answer in answers {
+        line.clear();
         match answer {
-            Ok(answer) => writeln!(out, "{answer}")?,
-            Err(fault) => writeln!(out, "{fault}")?,
+            Ok(answer) => writeln!(line, "{answer}")?,
+            Err(fault) => writeln!(line, "{fault}")?,
         }
+        out.push_str(line.as_str())?;
     }
     Ok(out)
 }
