@@ -27,7 +27,9 @@ fn text_of<R: Read + Drop>(heap: Global, input: R) -> io::Result<Vec<u8>>
 
 fn main(rt: HostRuntime) -> io::Result<()> {
     let text = text_of(rt.alloc(), rt.stdin())?;
-    let answers = work_text(rt.alloc(), text.as_slice())?;
+    let mut answers = work_text(rt.alloc(), text.as_slice())?;
+    // what is printed of them comes beside them, so no more than their room is kept
+    answers.shrink_to_fit();
     let out = print_out(rt.alloc(), answers.as_slice())?;
     rt.print(out.as_str())
 }

@@ -23,8 +23,6 @@ fn work_lines(heap: Global, text: &[u8]) -> Result<Vec<Result<Answer, Fault>>, A
         job = next;
         answers.push(answer)?;
     }
-    // what is printed of them comes beside them, so no more than their room is kept
-    answers.shrink_to_fit();
     Ok(answers)
 }
 

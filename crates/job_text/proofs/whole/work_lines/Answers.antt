@@ -20,5 +20,5 @@ loop-line-preserved c = λ more t h.
 pub returns : goal.returns
 returns c = (
   stage_of c.loop-line.job,
-  subst (λ as'. WorkedAll fresh (lines_of c.args.text.now) as' (stage_of c.loop-line.job)) (append-nil (vec_items c.loop-line.answers) ∙ sym c.shrink_to_fit.ensures.items) (c.loop-line.invariant [] _ (rw c.in-None.ensures.steps.0 no_line)),
+  subst (λ as'. WorkedAll fresh (lines_of c.args.text.now) as' (stage_of c.loop-line.job)) (append-nil (vec_items c.loop-line.answers)) (c.loop-line.invariant [] _ (rw c.in-None.ensures.steps.0 no_line)),
 )
